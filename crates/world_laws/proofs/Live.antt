@@ -1,0 +1,60 @@
+-- The live events of two lists, one after the other, and what a second window carries.
+use Rattle.std.proofs.Common.{◌≡◌, ℕ, ℤ, Bool, true, false, ◌||◌, List, [], ◌∷◌, ◌++◌, cond, refl, sym, ◌∙◌, ap, inl, inr}
+use Rattle.std.specs.List.{list_any, fold}
+use Rattle.std.proofs.lemmas.Bool.{cases_Bool, cond-true, cond-false}
+use Rattle.std.proofs.lemmas.List.Folds.{list_any-append}
+use Rattle.std.proofs.lemmas.List.Sums.{fold-append}
+use Rattle.graph_model.specs.declared.properties.Value.{Value}
+use Rattle.graph_model.specs.declared.events.Event.{Event}
+use Rattle.graph_model.specs.Props.{overwrite}
+use Rattle.graph_model.specs.Entity.{entity_of, is_deletion, update_of, props_of}
+use Rattle.graph_model.specs.Compare.{live}
+use Rattle.graph_model.specs.Window.{carried, last_props}
+use Rattle.world_laws.proofs.Carried.{subject-update_of, props-update_of, deletes-update_of}
+
+-- with no deletion all events are live
+pub live_all : (xs : List Event) → list_any is_deletion xs ≡ false → live xs ≡ xs
+live_all [] h = refl
+live_all (x ∷ xs) h = cond-false (list_any is_deletion (x ∷ xs)) _ _ h
+
+-- a deletion among the later events leaves only later ones
+live_append_cases : (x : Event) (xs ys : List Event) (d a t : Bool) → live (xs ++ ys) ≡ cond t (live ys) (live xs ++ ys)
+    → cond (d || (a || t)) (live (xs ++ ys)) (x ∷ (xs ++ ys)) ≡ cond t (live ys) (cond (d || a) (live xs) (x ∷ xs) ++ ys)
+live_append_cases x xs ys true a true h = h
+live_append_cases x xs ys true a false h = h
+live_append_cases x xs ys false true true h = h
+live_append_cases x xs ys false true false h = h
+live_append_cases x xs ys false false true h = h
+live_append_cases x xs ys false false false h = refl
+
+pub live-append : (xs ys : List Event) → live (xs ++ ys) ≡ cond (list_any is_deletion ys) (live ys) (live xs ++ ys)
+live-append [] ys = elim (cases_Bool (list_any is_deletion ys)) [
+  | inl e ↦ sym (cond-true (list_any is_deletion ys) _ _ e)
+  | inr e ↦ live_all ys e ∙ sym (cond-false (list_any is_deletion ys) _ _ e)
+]
+live-append (x ∷ xs) ys =
+    ap (λ t. cond (is_deletion x || t) (live (xs ++ ys)) (x ∷ (xs ++ ys))) (list_any-append is_deletion xs ys)
+    ∙ live_append_cases x xs ys (is_deletion x) (list_any is_deletion xs) (list_any is_deletion ys) (live-append xs ys)
+
+-- what is carried is live
+pub live-carried : (lo : ℤ) (xs : List Event) → live (carried lo xs) ≡ carried lo xs
+live-carried lo [] = refl
+live-carried lo (x ∷ xs) = live_all (carried lo (x ∷ xs)) (ap (λ t. t || false) (deletes-update_of (entity_of x) (last_props (x ∷ xs))))
+
+-- the event that stands for live events may take their place
+carried_in_place : (lo hi : ℤ) (xs ys : List Event) → carried hi (carried lo xs ++ ys) ≡ carried hi (xs ++ ys)
+carried_in_place lo hi [] ys = refl
+carried_in_place lo hi (x ∷ xs) ys =
+    let f : List (List ℕ × Value) → Event → List (List ℕ × Value) = λ old z. overwrite old (props_of z) in
+    let first : Event = record { time = lo; order = 0; what = update_of (entity_of x) (last_props (x ∷ xs)) } in
+    let same : last_props (first ∷ ys) ≡ last_props (x ∷ (xs ++ ys)) = ap (λ ps. fold f ps ys) (props-update_of (entity_of x) (last_props (x ∷ xs))) ∙ sym (fold-append f [] (x ∷ xs) ys) in
+    let own = subject-update_of (entity_of x) (last_props (x ∷ xs)) in
+    λ k. record { time = hi; order = 0; what = update_of (own k) (same k) } ∷ []
+
+-- what a second window carries is what it would carry alone
+pub carried_again : (lo hi : ℤ) (xs ys : List Event) → carried hi (live (carried lo (live xs) ++ ys)) ≡ carried hi (live (xs ++ ys))
+carried_again lo hi xs ys =
+    ap (carried hi) (live-append (carried lo (live xs)) ys)
+    ∙ (ap (λ zs. carried hi (cond (list_any is_deletion ys) (live ys) (zs ++ ys))) (live-carried lo (live xs))
+    ∙ ((elim (list_any is_deletion ys) as (λ t. carried hi (cond t (live ys) (carried lo (live xs) ++ ys)) ≡ carried hi (cond t (live ys) (live xs ++ ys))) [ true ↦ refl | false ↦ carried_in_place lo hi (live xs) ys ])
+    ∙ ap (carried hi) (sym (live-append xs ys))))
