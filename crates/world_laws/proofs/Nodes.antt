@@ -8,11 +8,17 @@ use Rattle.graph_model.specs.declared.events.Entity.{Entity}
 use Rattle.graph_model.specs.declared.events.Entity.TheVariants.{Node, Edge}
 use Rattle.graph_model.specs.declared.queries.Direction.{Direction}
 use Rattle.graph_model.specs.declared.queries.Direction.TheVariants.{Outward, Inward, Both}
+use Rattle.std.specs.Ordering.{int_eq, is_eq}
+use Rattle.std.proofs.lemmas.Cmp.{int_cmp_total, tied_itself}
+use Rattle.graph_model.specs.Interval.{Interval}
+use Rattle.graph_model.specs.declared.events.Event.{Event}
+use Rattle.graph_model.specs.declared.events.Model.{Model}
+use Rattle.graph_model.specs.declared.events.Model.TheVariants.{Event as Instants, Persistent}
 use Rattle.graph_model.specs.Names.{name_cmp, same_name}
 use Rattle.graph_model.specs.Rising.{Rises}
-use Rattle.graph_model.specs.Entity.{is_about, entities, same_edge}
+use Rattle.graph_model.specs.Entity.{is_about, is_addition, entities, same_edge}
 use Rattle.graph_model.specs.World.{World, IsLawful, events_of}
-use Rattle.graph_model.specs.Presence.{node_present, edge_present, is_present_at, IsContact, nodes, edges}
+use Rattle.graph_model.specs.Presence.{lives_at, node_present, edge_present, is_present_at, IsContact, nodes, edges}
 use Rattle.graph_model.specs.Neighbours.{is_link, leads, neighbours}
 use Rattle.world_laws.proofs.Filters.{any_weaker}
 use Rattle.world_laws.proofs.Order.{same_name-exact, same_name-refl, same_edge-exact}
@@ -110,3 +116,22 @@ neighbours_both w a b = neighbours_has w Both a b ∙ (λ k. sym (neighbours_has
 
 pub neighbours_rise : (w : World) (d : Direction) (a : List ℕ) → Rises name_cmp (neighbours w d a)
 neighbours_rise w d a = Rises-filter name_cmp (leads w d a) (nodes w) (nodes_rise w)
+
+-- ---- edges in the event model
+added_instants : (bounds : Interval) (h : List Event) → list_any (λ x. lives_at Instants bounds h x.time) h ≡ true → list_any is_addition h ≡ true
+added_instants bounds h k =
+    let r = some_passes (λ x. lives_at Instants bounds h x.time) h k in
+    let s = some_passes (λ y. is_addition y && int_eq y.time r.0.time) h r.1 in
+    s.2 is_addition (and_parts (is_addition s.0) (int_eq s.0.time r.0.time) s.1).0
+
+instants_added : (bounds : Interval) (h : List Event) → list_any is_addition h ≡ true → list_any (λ x. lives_at Instants bounds h x.time) h ≡ true
+instants_added bounds h k =
+    let r = some_passes is_addition h k in
+    r.2 (λ x. lives_at Instants bounds h x.time) (r.2 (λ y. is_addition y && int_eq y.time r.0.time) (and_from (is_addition r.0) (int_eq r.0.time r.0.time) r.1 (ap is_eq (tied_itself int_cmp_total r.0.time))))
+
+instants_present : (model : Model) (bounds : Interval) (h : List Event) → model ≡ Instants → (list_any (λ x. lives_at model bounds h x.time) h ≡ true) ↔ (list_any is_addition h ≡ true)
+instants_present Instants bounds h m = (added_instants bounds h, instants_added bounds h)
+instants_present Persistent bounds h m = cc
+
+pub present_by_addition : (w : World) (edge : EdgeName) → w.model ≡ Instants → IsTrue (edge_present w edge) ↔ IsTrue (list_any is_addition (events_of w (Edge edge)))
+present_by_addition w edge m = instants_present w.model w.bounds (events_of w (Edge edge)) m

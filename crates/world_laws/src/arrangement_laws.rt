@@ -54,9 +54,10 @@ pub fn arrival_counts_within_a_moment_alone()
     ensures { (xs ys : List Event) → ((k : Entity × ℤ × ℕ) → filter (is_at k) xs ≡ filter (is_at k) ys) → arrange xs ≡ arrange ys }
 {}
 
-/// A lawful world is fixed by its model, its bounds, its types and the events of each entity.
+/// A lawful world is fixed by its model, its bounds, its types and the events of each entity; its list by the events of each entity alone.
 pub fn world_is_fixed_by_its_entities()
-    ensures { (v w : World) → IsLawful v → IsLawful w → v.model ≡ w.model → v.bounds ≡ w.bounds → v.types ≡ w.types → ((e : Entity) → events_of v e ≡ events_of w e) → v ≡ w }
+    ensures list { (v w : World) → IsLawful v → IsLawful w → ((e : Entity) → events_of v e ≡ events_of w e) → v.events ≡ w.events }
+    ensures world { (v w : World) → IsLawful v → IsLawful w → v.model ≡ w.model → v.bounds ≡ w.bounds → v.types ≡ w.types → ((e : Entity) → events_of v e ≡ events_of w e) → v ≡ w }
 {}
 
 /// The base world of events that were accepted is lawful, and a lawful world is the base world of its own events.

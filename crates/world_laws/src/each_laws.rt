@@ -1,5 +1,5 @@
 //! Laws of the windows that roll or expand over a world. The functions do nothing: their contracts are the laws.
-ghost use Rattle.graph_model.specs.Interval.{latest};
+ghost use Rattle.graph_model.specs.Interval.{earliest, latest};
 ghost use Rattle.graph_model.specs.Range.{each_in_range};
 ghost use Rattle.graph_model.specs.Window.{window};
 ghost use Rattle.graph_model.specs.Windows.{step_of, window_count, windows, window_start, window_end, last_time, bounded};
@@ -35,6 +35,8 @@ pub fn windows_of_lawful_worlds_are_lawful()
 pub fn ends_of_windows_are_bounds()
     ensures bounded { (t : ℤ) → IsBound (bounded t) }
     ensures kept { (t : ℤ) → IsBound t → bounded t ≡ t }
+    ensures early { (t : ℤ) → t ≤ℤ earliest → bounded t ≡ earliest }
+    ensures late { (t : ℤ) → latest ≤ℤ t → bounded t ≡ latest }
     ensures begins { (each : Each) (first last : ℤ) (k : ℕ) → IsTrue (each_in_range each) → IsBound first → last <ℤ latest → first ≤ℤ last → k < window_count each first last → neg_ℤ (pos (2 ^ 63)) ≤ℤ window_start each first k }
     ensures ends { (each : Each) (first last : ℤ) (k : ℕ) → IsTrue (each_in_range each) → IsBound first → last <ℤ latest → first ≤ℤ last → k < window_count each first last → window_end each first k <ℤ pos (2 ^ 63) }
 {}

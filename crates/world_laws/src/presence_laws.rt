@@ -1,5 +1,5 @@
 //! Laws of what is present. The functions do nothing: their contracts are the laws.
-ghost use Rattle.graph_model.specs.Entity.{edge_cmp, same_edge};
+ghost use Rattle.graph_model.specs.Entity.{edge_cmp, same_edge, is_addition};
 ghost use Rattle.graph_model.specs.Names.{name_cmp, same_name};
 ghost use Rattle.graph_model.specs.Neighbours.{neighbours};
 ghost use Rattle.graph_model.specs.Presence.{edge_present, node_present, edges, nodes, IsContact};
@@ -8,7 +8,7 @@ ghost use Rattle.graph_model.specs.Updates.{updates, named_nodes};
 ghost use Rattle.graph_model.specs.World.{World, IsLawful, named, events_of};
 ghost use Rattle.graph_model.specs.declared.events.EdgeName.{EdgeName};
 ghost use Rattle.graph_model.specs.declared.events.Entity.TheVariants.{Node, Edge};
-ghost use Rattle.graph_model.specs.declared.events.Model.TheVariants.{Persistent};
+ghost use Rattle.graph_model.specs.declared.events.Model.TheVariants.{Event as Instants, Persistent};
 ghost use Rattle.graph_model.specs.declared.queries.Direction.{Direction};
 ghost use Rattle.graph_model.specs.declared.queries.Direction.TheVariants.{Outward, Inward, Both};
 ghost use Rattle.std.specs.List.{list_any};
@@ -51,4 +51,9 @@ pub fn neighbours_are_ends_of_present_edges()
     ensures inward { (w : World) (a b : List ℕ) → list_any (same_name b) (neighbours w Inward a) ≡ list_any (same_name a) (neighbours w Outward b) }
     ensures both { (w : World) (a b : List ℕ) → list_any (same_name b) (neighbours w Both a) ≡ (list_any (same_name b) (neighbours w Outward a) || list_any (same_name b) (neighbours w Inward a)) }
     ensures rise { (w : World) (d : Direction) (a : List ℕ) → Rises name_cmp (neighbours w d a) }
+{}
+
+/// In the event model an edge is present exactly where it has an addition.
+pub fn edges_of_moments_are_present_by_an_addition()
+    ensures { (w : World) (edge : EdgeName) → w.model ≡ Instants → IsTrue (edge_present w edge) ↔ IsTrue (list_any is_addition (events_of w (Edge edge))) }
 {}

@@ -17,7 +17,7 @@ ghost use Rattle.graph_model.specs.declared.queries.Op.TheVariants.{Window, At, 
 ghost use Rattle.graph_model.specs.declared.events.Entity.TheVariants.{Node, Edge};
 ghost use Rattle.graph_model.specs.declared.properties.Value.TheVariants.{Int, Flag, Text};
 ghost use Rattle.world_laws.specs.Examples.{a, b, c, d, l, n, w, x, y, z, link, added, two_edges, added_again, added_in, deleted_in, ordered, typed, forgotten, added_with, twice, lasting_value, lasting, falling, seven_moments, extents, between, triangle, chain, mixed, layered, loop, base_of, arrived_late, type_alone, deleted_at_once, valued, falls_late, in_two_layers, nested, three_edges, path, ten_moments, sixty_four};
-ghost use Rattle.graph_model.specs.World.{World, events_of, event_cmp};
+ghost use Rattle.graph_model.specs.World.{World, IsLawful, events_of, event_cmp};
 ghost use Rattle.graph_model.specs.Rising.{put_after};
 ghost use Rattle.graph_model.specs.Stack.{apply};
 ghost use Rattle.graph_model.specs.Presence.{edges, nodes, alive_at};
@@ -247,4 +247,12 @@ pub fn core_numbers_of_small_worlds()
     ensures none { (node : List ℕ) → IsInCore triangle 3 node → ⊥ }
     ensures looped { IsCoreNumber loop a 0 }
     ensures alone { IsCoreNumber loop b 0 }
+{}
+
+/// There are lawful worlds in both models, with deletions, values and types.
+pub fn small_worlds_are_lawful()
+    ensures instants { IsLawful seven_moments }
+    ensures persistent { IsLawful forgotten }
+    ensures typed { IsLawful typed }
+    ensures short { IsLawful ten_moments }
 {}

@@ -2,7 +2,7 @@
 ghost use Rattle.graph_model.specs.Entity.{is_about};
 ghost use Rattle.graph_model.specs.Keep.{keep, among_types};
 ghost use Rattle.graph_model.specs.Range.{op_in_range};
-ghost use Rattle.graph_model.specs.Searches.{kind_of, IsWindow};
+ghost use Rattle.graph_model.specs.Searches.{kind_of, IsNameView, IsWindow};
 ghost use Rattle.graph_model.specs.Stack.{view, apply};
 ghost use Rattle.graph_model.specs.Window.{window};
 ghost use Rattle.graph_model.specs.Windows.{windows};
@@ -67,4 +67,10 @@ pub fn ends_of_views_are_bounds()
     ensures windows { (op : Op) → kind_of op ≡ IsWindow → (ends : ℤ × ℤ) × (window_ends op ≡ Some ends) }
     ensures shown { (w : World) (op : Op) (ends : ℤ × ℤ) → window_ends op ≡ Some ends → view w op ≡ window w ends.0 ends.1 }
     ensures in_range { (op : Op) (ends : ℤ × ℤ) → IsTrue (op_in_range op) → window_ends op ≡ Some ends → AreEnds ends }
+{}
+
+/// The views by layers, by nodes and by types of nodes change places with windows and with one another.
+pub fn name_views_of_queries_change_places()
+    ensures window { (w : World) (a b : ℤ) (op : Op) → IsLawful w → kind_of op ≡ IsNameView → view (window w a b) op ≡ window (view w op) a b }
+    ensures each_other { (w : World) (op next : Op) → kind_of op ≡ IsNameView → kind_of next ≡ IsNameView → view (view w op) next ≡ view (view w next) op }
 {}

@@ -11,7 +11,7 @@ ghost use Rattle.graph_model.specs.declared.events.Event.{Event};
 ghost use Rattle.graph_model.specs.declared.events.Model.TheVariants.{Event as Instants, Persistent};
 ghost use Rattle.std.specs.Int.{int_max, int_min};
 ghost use Rattle.std.specs.List.{list_any, AllByRecursion};
-ghost use Rattle.std.specs.Prelude.{◌≡◌, ℕ, ℤ, List, [], ◌∷◌, ◌++◌, Bool, false, IsTrue, take, IsFalse};
+ghost use Rattle.std.specs.Prelude.{◌≡◌, ℕ, ℤ, List, [], ◌∷◌, ◌++◌, Bool, true, false, IsTrue, take, length, slice_range, ◌+◌, IsFalse};
 
 /// What a window shows of an entity depends on the events of that entity alone.
 pub fn window_clips_each_entity()
@@ -50,4 +50,9 @@ pub fn carried_values_are_the_last()
 pub fn windows_are_parts_of_histories()
     ensures persistent { (h : List Event) (i : Interval) (from to : ℕ) (flag : Bool) → IsWindowOf h i from to → (flag ≡ false → live (take from h) ≡ []) → clip_list Persistent i h ≡ spell h from to flag i.lo }
     ensures instants { (h : List Event) (i : Interval) (from to : ℕ) → IsWindowOf h i from to → clip_list Instants i h ≡ spell h from to false i.lo }
+{}
+
+/// A span that is carried after an event that is no deletion spells one update of the entity at the beginning, of order 0 and with the last properties that are live, and then its part of the history.
+pub fn carried_span_spells_one_event_first()
+    ensures { (e : Entity) (before : List Event) (x : Event) (after : List Event) (to : ℕ) (lo : ℤ) → AllByRecursion (λ y. entity_of y ≡ e) (before ++ x ∷ []) → IsFalse (is_deletion x) → spell (before ++ x ∷ after) (length before + 1) to true lo ≡ record { time = lo; order = 0; what = update_of e (last_props (live (before ++ x ∷ []))) } ∷ slice_range (before ++ x ∷ after) (length before + 1) to }
 {}
