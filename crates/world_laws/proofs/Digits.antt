@@ -54,3 +54,8 @@ digits-half (suc n) h = let half : suc n / 2 ≤ n = omega arith in omega (arith
 -- after a probe in the middle of a range, what is left on either side has one digit less
 pub digits-side : (n m : ℕ) → m ≤ n / 2 → 0 < n → digits m + 1 ≤ digits n
 digits-side n m h some = omega (arith, digits-le m (n / 2) h, digits-half n some)
+
+-- a number that is not 0 has one digit more than its half
+pub digits-halved : (n : ℕ) → 0 < n → digits n ≡ digits (n / 2) + 1
+digits-halved zero h = absurd (omega arith)
+digits-halved (suc n) h = let half : suc n / 2 ≤ n = omega arith in omega (arith, digits_grow (suc n / 2) n (suc n / 2) (suc n / 2) (omega arith) half, digits_grow n (suc n / 2) (suc n / 2) (suc n / 2) (omega arith) (omega arith))

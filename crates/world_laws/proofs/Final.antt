@@ -1,15 +1,26 @@
 -- An edge that lasts is alive at some moment where some addition is followed by none of its events at the same time.
-use Rattle.std.proofs.Common.{◌≡◌, ℤ, ◌≤ℤ◌, Bool, true, false, not, ◌&&◌, ◌||◌, List, [], ◌∷◌, ◌++◌, refl, sym, ◌∙◌, ap, arith, inl, inr, append_assoc}
-use Rattle.std.specs.Prelude.{int_le}
+use Rattle.std.proofs.Common.{◌≡◌, ℤ, ◌≤ℤ◌, ◌<ℤ◌, Bool, true, false, not, ◌&&◌, ◌||◌, List, [], ◌∷◌, ◌++◌, refl, sym, ◌∙◌, ap, arith, inl, inr, append_assoc}
+use Rattle.std.specs.Prelude.{int_le, IsTrue, ◌↔◌}
 use Rattle.std.specs.List.{AllByRecursion, filter, list_any}
-use Rattle.std.proofs.lemmas.Bool.{cases_Bool, cond-true, cond-false, true≢false}
+use Rattle.std.proofs.lemmas.Bool.{cases_Bool, cond-true, cond-false, or_left, or_right, or_cases, and_parts, and_from, true≢false}
 use Rattle.std.proofs.lemmas.Int.{ints}
 use Rattle.graph_model.specs.declared.events.Event.{Event}
-use Rattle.graph_model.specs.declared.events.Model.TheVariants.{Persistent}
+use Rattle.graph_model.specs.declared.events.EdgeName.{EdgeName}
+use Rattle.graph_model.specs.declared.events.Entity.TheVariants.{Edge}
+use Rattle.graph_model.specs.declared.events.Model.{Model}
+use Rattle.graph_model.specs.declared.events.Model.TheVariants.{Event as Instants, Persistent}
 use Rattle.graph_model.specs.Interval.{Interval, is_inside}
-use Rattle.graph_model.specs.Entity.{is_addition}
-use Rattle.graph_model.specs.Presence.{ends_in_addition, lives_at}
-use Rattle.world_laws.proofs.Times.{le_test, le_from_test}
+use Rattle.graph_model.specs.Entity.{is_addition, is_about}
+use Rattle.graph_model.specs.Presence.{ends_in_addition, lives_at, edge_present}
+use Rattle.graph_model.specs.World.{World, IsLawful, events_of, event_cmp}
+use Rattle.world_laws.specs.LastAddition.{HasLastAddition}
+use Rattle.world_laws.proofs.Filters.{each_weaker, each_kept}
+use Rattle.world_laws.proofs.InOrder.{IsInOrder-filter}
+use Rattle.world_laws.proofs.Listed.{in_order_from_arranged}
+use Rattle.world_laws.proofs.Lawful.{each_passes}
+use Rattle.world_laws.proofs.Named.{each_fails, none_pass}
+use Rattle.world_laws.proofs.Windows.{TimesRise-in_order}
+use Rattle.world_laws.proofs.Times.{le_test, le_from_test, gt_from_test, not_le_test}
 use Rattle.world_laws.proofs.Nested.{TimesRise}
 
 -- some addition is followed by no event at the same time
@@ -117,3 +128,43 @@ present_final (x ∷ xs) h =
 pub present_inside : (bounds : Interval) (xs ys : List Event) → AllByRecursion (λ x. is_inside bounds x.time ≡ true) ys → list_any (λ x. lives_at Persistent bounds xs x.time) ys ≡ list_any (λ x. lasting xs x.time) ys
 present_inside bounds xs [] h = refl
 present_inside bounds xs (y ∷ ys) h = λ i. (h.0 i && lasting xs y.time) || present_inside bounds xs ys h.1 i
+
+-- some addition is followed by later events alone
+final_from : (before : List Event) (x : Event) (after : List Event) → is_addition x ≡ true → AllByRecursion (λ y. x.time <ℤ y.time) after → final_any (before ++ x ∷ after) ≡ true
+final_from [] x after h k =
+    or_left (is_addition x && not (list_any (λ y. int_le y.time x.time) after)) (final_any after)
+    (and_from (is_addition x) (not (list_any (λ y. int_le y.time x.time) after)) h
+    (ap not (none_pass (λ y. int_le y.time x.time) after (each_weaker (λ y. x.time <ℤ y.time) (λ y. int_le y.time x.time ≡ false) (λ y m. not_le_test y.time x.time m) after k))))
+final_from (y ∷ before) x after h k = or_right (is_addition y && not (list_any (λ z. int_le z.time y.time) (before ++ x ∷ after))) (final_any (before ++ x ∷ after)) (final_from before x after h k)
+
+not_true : (b : Bool) → not b ≡ true → b ≡ false
+not_true true h = cc
+not_true false h = refl
+
+final_to : (xs : List Event) → final_any xs ≡ true → HasLastAddition xs
+final_to [] h = absurd (true≢false (sym h))
+final_to (x ∷ xs) h = elim (or_cases (is_addition x && not (list_any (λ y. int_le y.time x.time) xs)) (final_any xs) h) [
+  | inl e ↦
+      let k = and_parts (is_addition x) (not (list_any (λ y. int_le y.time x.time) xs)) e in
+      ([], (x, (xs, refl, k.0, each_weaker (λ y. int_le y.time x.time ≡ false) (λ y. x.time <ℤ y.time) (λ y m. gt_from_test y.time x.time m) xs (each_fails (λ y. int_le y.time x.time) xs (not_true (list_any (λ y. int_le y.time x.time) xs) k.1)))))
+  | inr e ↦ let r = final_to xs e in (x ∷ r.0, (r.1.0, (r.1.1.0, ap (λ ys. x ∷ ys) r.1.1.1, r.1.1.2, r.1.1.3)))
+]
+
+final_back : (xs : List Event) → HasLastAddition xs → final_any xs ≡ true
+final_back xs r = ap final_any r.1.1.1 ∙ final_from r.0 r.1.0 r.1.1.0 r.1.1.2 r.1.1.3
+
+-- an edge that lasts is present where some addition of it is followed by none of its events at the same time
+edge_final : (model : Model) (bounds : Interval) (h : List Event) → model ≡ Persistent → AllByRecursion (λ x. is_inside bounds x.time ≡ true) h → TimesRise h → list_any (λ x. lives_at model bounds h x.time) h ≡ final_any h
+edge_final Instants bounds h m inside rise = cc
+edge_final Persistent bounds h m inside rise = present_inside bounds h h inside ∙ present_final h rise
+
+pub edge_present-final : (w : World) (edge : EdgeName) → IsLawful w → w.model ≡ Persistent → edge_present w edge ≡ final_any (events_of w (Edge edge))
+edge_present-final w edge lawful m =
+    let h = events_of w (Edge edge) in
+    edge_final w.model w.bounds h m
+    (each_kept (λ x. is_inside w.bounds x.time ≡ true) (is_about (Edge edge)) w.events (each_passes (λ x. is_inside w.bounds x.time) w.events lawful.inside))
+    (TimesRise-in_order h (IsInOrder-filter event_cmp (is_about (Edge edge)) w.events (in_order_from_arranged w.events lawful.arranged)))
+
+pub lasting_present : (w : World) (edge : EdgeName) → IsLawful w → w.model ≡ Persistent → IsTrue (edge_present w edge) ↔ HasLastAddition (events_of w (Edge edge))
+lasting_present w edge lawful m =
+    (λ h. final_to (events_of w (Edge edge)) (sym (edge_present-final w edge lawful m) ∙ h), λ h. edge_present-final w edge lawful m ∙ final_back (events_of w (Edge edge)) h)

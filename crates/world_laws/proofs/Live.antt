@@ -77,3 +77,9 @@ carried_after e lo xs x h k =
     ap (carried lo) still
     ∙ (carried_one e lo (live xs) x (subst (AllByRecursion (λ y. entity_of y ≡ e)) still (each_live (λ y. entity_of y ≡ e) (xs ++ x ∷ []) h))
     ∙ ap (λ ys. record { time = lo; order = 0; what = update_of e (last_props ys) } ∷ []) (sym still))
+
+-- what stands after the last deletion is live
+pub live_after : (xs : List Event) (x : Event) (ys : List Event) → is_deletion x ≡ true → list_any is_deletion ys ≡ false → live (xs ++ x ∷ ys) ≡ ys
+live_after xs x ys h k =
+    let some : list_any is_deletion (x ∷ ys) ≡ true = ap (λ t. t || list_any is_deletion ys) h in
+    live-append xs (x ∷ ys) ∙ (cond-true (list_any is_deletion (x ∷ ys)) _ _ some ∙ (cond-true (list_any is_deletion (x ∷ ys)) _ _ some ∙ live_all ys k))
