@@ -7,12 +7,13 @@ use Rattle.graph_model.specs.declared.events.Model.TheVariants.{Event as Instant
 use Rattle.graph_model.specs.declared.queries.Ask.{Ask}
 use Rattle.graph_model.specs.declared.queries.Ask.TheVariants.{Nodes, Edges, Events, Degree, Hops, Weak, OutComponent, InComponent, Core, CoreNumbers, Arrival, NodeHistory, EdgeHistory, NodeValue, EdgeValue, EdgeAlive, Materialise, Updates}
 use Rattle.graph_model.specs.declared.queries.Query.{Query}
+use Rattle.graph_model.specs.Interval.{Interval}
 use Rattle.graph_model.specs.World.{World}
 use Rattle.graph_model.specs.Stack.{apply}
 use Rattle.graph_model.specs.Windows.{windows}
 use Rattle.graph_model.specs.Answer.{Row, row_fields, IsAnswer}
 use Rattle.graph_model.specs.RowText.{rows_text}
-use Rattle.graph_model.specs.Reading.{Reading, RecordRefusal, record_refusal_name, reading, world_of}
+use Rattle.graph_model.specs.Reading.{RecordRefusal, record_refusal_name, reading, world_of}
 use Rattle.graph_model.specs.Script.{QueryRefusal, query_refusal_name, lines_of, is_blank, query_of}
 
 abbrev pub model_word : Model → List ℕ
@@ -45,8 +46,8 @@ abbrev pub refused_row : ℕ × RecordRefusal → List (List ℕ)
 refused_row r = codes "refused" ∷ decimal r.0 ∷ record_refusal_name r.1 ∷ []
 
 -- the row of a graph: its model, its bounds, and how many events were accepted and how many records refused
-abbrev pub graph_row : Model → Reading → List (List ℕ)
-graph_row model r = codes "graph" ∷ model_word model ∷ signed_decimal r.bounds.lo ∷ signed_decimal r.bounds.hi ∷ decimal (length r.accepted) ∷ decimal (length r.refused) ∷ []
+abbrev pub graph_row : Model → Interval → ℕ → ℕ → List (List ℕ)
+graph_row model bounds accepted refused = codes "graph" ∷ model_word model ∷ signed_decimal bounds.lo ∷ signed_decimal bounds.hi ∷ decimal accepted ∷ decimal refused ∷ []
 
 -- the row of a refused query, by its line
 abbrev pub refused_query_row : ℕ → QueryRefusal → List (List ℕ)
@@ -57,12 +58,12 @@ abbrev pub query_row : ℕ → Ask → ℕ → List (List ℕ)
 query_row number ask worlds = codes "query" ∷ decimal number ∷ ask_word ask ∷ decimal worlds ∷ []
 
 -- the row of a world: its bounds, and how many rows of an answer follow
-abbrev pub world_row : World → ℕ → List (List ℕ)
-world_row w rows = codes "world" ∷ signed_decimal w.bounds.lo ∷ signed_decimal w.bounds.hi ∷ decimal rows ∷ []
+abbrev pub world_row : Interval → ℕ → List (List ℕ)
+world_row bounds rows = codes "world" ∷ signed_decimal bounds.lo ∷ signed_decimal bounds.hi ∷ decimal rows ∷ []
 
 -- the part of one world: its row, and the rows that answer the question about it
 abbrev pub IsPart : World → Ask → List (List (List ℕ)) → Type 0
-IsPart w ask rows = (answer : List Row) × IsAnswer w ask answer × (rows ≡ world_row w (length answer) ∷ map row_fields answer)
+IsPart w ask rows = (answer : List Row) × IsAnswer w ask answer × (rows ≡ world_row w.bounds (length answer) ∷ map row_fields answer)
 
 -- the parts of worlds, one behind another
 abbrev pub AreParts : List World → Ask → List (List (List ℕ)) → Type 0
@@ -96,7 +97,7 @@ AreBlocks w number (line ∷ lines) rows = (block rest : List (List (List ℕ)))
 unfoldable pub IsOutput : Model → List ℕ → List ℕ → List ℕ → Type 0
 IsOutput model events script text = let r = reading model events in
     (blocks : List (List (List ℕ))) × AreBlocks (world_of model r) 1 (lines_of script) blocks
-    × (text ≡ rows_text (map refused_row r.refused ++ (graph_row model r ∷ blocks)))
+    × (text ≡ rows_text (map refused_row r.refused ++ (graph_row model r.bounds (length r.accepted) (length r.refused) ∷ blocks)))
 
 -- a line is skipped, or its query is not refused
 abbrev pub is_clean_line : List ℕ → Bool

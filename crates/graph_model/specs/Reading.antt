@@ -1,6 +1,6 @@
 -- What an events file says, record by record.
 use Rattle.std.specs.Prelude.{ℕ, ℤ, Bool, ◌+◌, ◌==◌, ◌&&◌, List, [], ◌∷◌, ◌++◌, length, codes, Option, Some, None, option_map, unwrap_or, if◌then◌else◌}
-use Rattle.std.specs.Str.{bytes_eq}
+use Rattle.std.specs.Str.{bytes_eq, is_utf8}
 use Rattle.csv.specs.Reading.{default_config, records, strip_bom}
 use Rattle.csv.specs.Records.{field_at}
 use Rattle.graph_model.specs.declared.events.EdgeName.{EdgeName}
@@ -55,10 +55,10 @@ moment_of field = moment_in (whole_of field)
 abbrev pub edge_of : List (List ℕ) → EdgeName
 edge_of fields = record { src = field_of fields 2; dst = field_of fields 3; layer = field_of fields 4 }
 
--- a plain edge: five fields, of which the first is the word `edge` and the last three are names
+-- a plain edge: five fields, namely the word `edge`, a text, and three names
 abbrev pub is_edge : List (List ℕ) → Bool
-is_edge fields = (length fields == 5) && (bytes_eq (field_of fields 0) (codes "edge")
-    && (is_name (field_of fields 2) && (is_name (field_of fields 3) && is_name (field_of fields 4))))
+is_edge fields = (length fields == 5) && (bytes_eq (field_of fields 0) (codes "edge") && (is_utf8 (field_of fields 1)
+    && (is_name (field_of fields 2) && (is_name (field_of fields 3) && is_name (field_of fields 4)))))
 
 -- the event that a plain edge with a moment says
 abbrev pub event_of : List (List ℕ) → Option Event
