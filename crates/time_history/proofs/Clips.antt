@@ -20,7 +20,7 @@ use Rattle.time_history.specs.declared.updates.Kind.{Kind}
 use Rattle.time_history.specs.declared.updates.Kind.TheVariants.{Node as OfNode, Add, Delete}
 use Rattle.time_history.specs.declared.updates.Update.{Update}
 use Rattle.time_history.specs.declared.span.Span.{Span}
-use Rattle.time_history.specs.Bare.{IsBare}
+use Rattle.time_history.specs.NoEvent.{HasNoEvent}
 use Rattle.time_history.specs.Kinds.{is_delete}
 use Rattle.time_history.specs.Updates.{update_at, no_update}
 use Rattle.time_history.specs.Told.{event_told, events_told, what_told, named, fits, Fits}
@@ -78,7 +78,7 @@ module _ (entity : Entity) (names : ℕ → List ℕ) (us : List Update) (fit : 
   carried_if from le true h lo = refl
   carried_if from le false h lo = sym (ap (carried lo) (nothing_live from le (sym h)))
 
-  pub bare_spelled : (span : Span) (lo : ℤ) → IsBare span → spelled entity names us span lo ≡ []
+  pub bare_spelled : (span : Span) (lo : ℤ) → HasNoEvent span → spelled entity names us span lo ≡ []
   bare_spelled span lo h =
       let events = events_told entity names us in
       ap (λ c. cond c (carried lo (live (take span.from events))) [] ++ slice_range events span.from span.to) h.1
@@ -152,10 +152,10 @@ nothing_clip Instants cut = refl
 nothing_clip Persistent cut = elim (is_empty cut) as (λ t. cond {A = List Event} t [] [] ≡ []) [ true ↦ refl | false ↦ refl ]
 
 -- an empty window of any span, and any window of a span with no event
-pub IsClipped-empty : (model : Model) (bounds cut : Interval) (us : List Update) (span r : Span) → is_empty cut ≡ true → IsBare r → IsClipped model bounds cut us span r
+pub IsClipped-empty : (model : Model) (bounds cut : Interval) (us : List Update) (span r : Span) → is_empty cut ≡ true → HasNoEvent r → IsClipped model bounds cut us span r
 IsClipped-empty model bounds cut us span r h b entity names fit = bare_spelled entity names us fit r cut.lo b ∙ sym (empty_clip model cut h (spelled entity names us span bounds.lo))
 
-pub IsClipped-bare : (model : Model) (bounds cut : Interval) (us : List Update) (span r : Span) → IsBare span → IsBare r → IsClipped model bounds cut us span r
+pub IsClipped-bare : (model : Model) (bounds cut : Interval) (us : List Update) (span r : Span) → HasNoEvent span → HasNoEvent r → IsClipped model bounds cut us span r
 IsClipped-bare model bounds cut us span r a b entity names fit = bare_spelled entity names us fit r cut.lo b ∙ sym (ap (clip_list model cut) (bare_spelled entity names us fit span bounds.lo a) ∙ nothing_clip model cut)
 
 -- what the two searches of a window find

@@ -15,3 +15,4 @@ pub mod Names
 pub mod Props
 pub mod Values
 pub mod Next
+pub mod Held

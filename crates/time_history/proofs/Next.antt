@@ -19,7 +19,7 @@ use Rattle.time_history.specs.Kinds.{NoDeletion, is_delete}
 use Rattle.time_history.specs.Told.{Fits}
 use Rattle.time_history.specs.Updates.{update_at, TimesRise}
 use Rattle.time_history.specs.Spans.{IsSpan, IsCut, IsTaken, IsAllowed, spelled}
-use Rattle.time_history.specs.Bare.{IsBare}
+use Rattle.time_history.specs.NoEvent.{HasNoEvent}
 use Rattle.time_history.proofs.Clips.{bare_spelled}
 use Rattle.time_history.specs.Asked.{IsAliveAt, IsNextUpdate, IsNextContact, is_final_at}
 use Rattle.time_history.proofs.Alive.{alive_instants, alive_after, alive_carried}
@@ -228,7 +228,7 @@ module _ (us : List Update) (bounds : Interval) (span : Span) (after first : ℤ
             lt_from a b h = grind (arith, ints)
 
 -- a span with no event has no contact
-pub next_bare : (model : Model) (bounds : Interval) (us : List Update) (span : Span) (after : ℤ) → IsBare span → IsNextContact model bounds us span after None
+pub next_bare : (model : Model) (bounds : Interval) (us : List Update) (span : Span) (after : ℤ) → HasNoEvent span → IsNextContact model bounds us span after None
 next_bare model bounds us span after bare edge names fit t a = ap (λ xs. lives_at model bounds xs t) (bare_spelled (Edge edge) names us fit span bounds.lo bare) ∙ nothing model
   where
     nothing : (m : Model) → lives_at m bounds [] t ≡ false

@@ -17,7 +17,7 @@ use Rattle.graph_model.specs.Presence.{lives_at, ends_in_addition}
 use Rattle.world_laws.proofs.Times.{lt_from_test, ge_from_test, le_test, not_le_test, inside_test}
 use Rattle.time_history.specs.declared.updates.Update.{Update}
 use Rattle.time_history.specs.declared.span.Span.{Span}
-use Rattle.time_history.specs.Bare.{IsBare}
+use Rattle.time_history.specs.NoEvent.{HasNoEvent}
 use Rattle.time_history.specs.Updates.{update_at, TimesRise}
 use Rattle.time_history.specs.Told.{event_told, events_told, named, Fits}
 use Rattle.time_history.specs.Spans.{IsSpan, IsCut, IsTaken, IsAllowed, spelled}
@@ -179,7 +179,7 @@ module _ (edge : EdgeName) (names : ℕ → List ℕ) (us : List Update) (rise :
             ap not (ap (list_any (λ y. int_le y.time bounds.lo)) (slice_first span.from span.to lt s.end) ∙ ap (λ b. b || list_any (λ y. int_le y.time bounds.lo) (slice_range (events_told (Edge edge) names us) (span.from + 1) span.to)) (le_test (update_at us span.from).time bounds.lo le))
 
 -- a span with no event
-pub present_bare : (model : Model) (bounds : Interval) (us : List Update) (span : Span) → IsBare span → IsPresent model bounds us span false
+pub present_bare : (model : Model) (bounds : Interval) (us : List Update) (span : Span) → HasNoEvent span → IsPresent model bounds us span false
 present_bare model bounds us span bare edge names fit = sym (ap (list_any (λ x. lives_at model bounds (spelled (Edge edge) names us span bounds.lo) x.time)) (bare_spelled (Edge edge) names us fit span bounds.lo bare))
 
 -- in the event model each update of an edge is a contact

@@ -1,22 +1,24 @@
 //! The history of one entity.
-ghost use Rattle.std.specs.Prelude.{◌≡◌, ℕ, ◌+◌, ◌-◌, ◌*◌, ◌^◌, ◌<◌, ◌≤◌, ◌≢◌, ◌≤ℤ◌, ◌<ℤ◌, ℤ, [], ◌∷◌, length, int_lt, true, false, IsTrue, IsFalse, OnOk, OnErr};
+ghost use Rattle.std.specs.Prelude.{◌≡◌, ℕ, ◌+◌, ◌-◌, ◌*◌, ◌^◌, ◌<◌, ◌≤◌, ◌≤ℤ◌, ◌<ℤ◌, [], ◌∷◌, length, int_lt, true, false, OnOk, OnErr, IsOk};
 ghost use Rattle.std.specs.List.{All};
 ghost use Rattle.std.specs.Option.{option_copied};
 ghost use Rattle.std.specs.Ordering.{int_eq};
 ghost use Rattle.std.specs.Int.{int_max};
-ghost use Rattle.time_column.specs.Stamp.{stamp_at, IsRising};
 ghost use Rattle.graph_model.specs.Searches.{digits};
-ghost use Rattle.time_history.specs.Kinds.{OfOneSort};
-ghost use Rattle.time_history.specs.Updates.{update_at, placed, UpdatesRise, TimesRise};
 ghost use Rattle.graph_model.specs.Interval.{Interval, is_inside, latest};
 ghost use Rattle.graph_model.specs.declared.events.Model.TheVariants.{Event as Instants, Persistent};
-ghost use Rattle.time_history.specs.Asked.{IsAliveAt, HappensAt, IsPresent, IsLastKind, IsValue, IsValueIn, IsNextUpdate, IsNextContact, is_final_at};
+ghost use Rattle.time_history.specs.Kinds.{OfOneSort};
+ghost use Rattle.time_column.specs.Stamp.{is_not_after};
+ghost use Rattle.time_history.specs.Updates.{stamp_of, update_at, placed, ComesLast, UpdatesRise, TimesRise, ValuesRise};
 ghost use Rattle.time_history.specs.Spans.{carries, IsSpan, IsCut, IsTaken, IsPart, IsAllowed, IsClipped};
+ghost use Rattle.time_history.specs.Asked.{IsAliveAt, HappensAt, IsPresent, IsLastKind, IsValue, IsValueIn, IsNextUpdate, IsNextContact, is_final_at};
 
-use crate::search::{Probe, first_after, inside, last_place};
+use crate::search::{Probe, first_after, last_place};
 use crate::span::Span;
-use crate::updates::{Detail, KeyValues, Kind, Update};
+use crate::updates::{KeyValues, Kind, Update};
+use chunk_list::ChunkList;
 use graph_model::{Bounds, Model as Lasting, Value};
+use smallvec::SmallVec;
 use std::alloc::{AllocError, Global};
 use std::marker::Model;
 use std::sync::ledger::Ledger;
@@ -34,47 +36,65 @@ fn same_moment(a: i64, b: i64) -> bool
     a == b
 }
 
-/// The updates of one entity, rising by time, then by order, then by arrival.
+/// What an update does, and the place of its values in a list of the history's values.
+#[derive(Clone, Copy, Default, Drop)]
+struct Detail {
+    kind: Kind,
+    values: u32,
+}
+
+/// The updates of one entity, rising by time, then by order, then by arrival. A contract sees the
+/// updates, and for how many more there is room.
 #[derive(Drop)]
 pub struct History {
     column: TimeColumn,
-    details: Vec<Detail>,
+    details: ChunkList<Detail>,
+    // The first stands for all updates without values.
+    values: SmallVec<KeyValues, 1>,
 }
 
 impl Model for History {
-    ghost use Rattle.std.specs.Prelude.{ℕ, List, ◌≡◌, ◌<◌, ◌^◌, length};
-    ghost use Rattle.std.specs.Vec.{vec_len};
-    ghost use Rattle.time_column.specs.Stamp.{IsRising};
-    ghost use Rattle.time_history.specs.declared.updates.Update.{Update};
-    ghost use Rattle.time_history.specs.Updates.{updates_of};
+    ghost use Rattle.std.specs.Prelude.{◌-◌, length, min};
+    ghost use Rattle.time_history.specs.History.{Known, IsSound, updates_of, changes_of};
 
-    ghost Value = { List Update };
+    ghost Value = { Known };
 
-    ghost view = { λ h. updates_of h.column.stamps h.details.items };
+    ghost view = { λ h. record {
+      updates = updates_of h.column.stamps (changes_of h.details.items h.values.items);
+      spare = min h.column.spare h.details.spare;
+      spare_values = min (min h.column.spare h.details.spare) (h.values.capacity - length h.values.items);
+    } };
 
-    ghost invariant = { λ h. (length h.column.stamps ≡ vec_len h.details) × (vec_len h.details < 2 ^ 32) × IsRising h.column.stamps };
+    ghost invariant = { λ h. IsSound h.column.stamps h.details.items h.values.items };
 }
 
 impl History {
+    ghost use Rattle.time_history.specs.History.{HasRoomFor};
+
+    /// No update.
     pub fn new(alloc: Global) -> History
-        ensures { result ≡ [] }
+        ensures { result.updates ≡ [] }
     {
+        let mut values = SmallVec::new(alloc);
+        values.push_reserved(KeyValues::new(alloc));
         History {
             column: TimeColumn::new(alloc),
-            details: Vec::new(alloc),
+            details: ChunkList::new(alloc),
+            values,
         }
     }
 
     pub fn len(&self) -> u32
-        ensures len { result ≡ length self.now }
-        ensures rising { UpdatesRise self.now }
+        ensures len { result ≡ length self.now.updates }
+        ensures rising { UpdatesRise self.now.updates }
+        ensures values { ValuesRise self.now.updates }
     {
         self.details.len() as u32
     }
 
     /// All updates.
     pub fn whole(&self) -> Span
-        ensures { result ≡ record { from = 0; to = length self.now; carried = false } }
+        ensures { result ≡ record { from = 0; to = length self.now.updates; carried = false } }
     {
         Span {
             from: 0,
@@ -84,43 +104,92 @@ impl History {
     }
 
     pub fn kind_at(&self, i: u32) -> Kind
-        requires { i < length self.now }
-        ensures { result ≡ (update_at self.now i).kind }
+        requires { i < length self.now.updates }
+        ensures { result ≡ (update_at self.now.updates i).kind }
     {
-        self.details[i as usize].kind
+        self.details.get(i as usize).kind
     }
 
     pub fn values_at(&self, i: u32) -> &KeyValues
-        requires { i < length self.now }
-        ensures { result.now ≡ (update_at self.now i).props }
+        requires { i < length self.now.updates }
+        ensures { result.now ≡ (update_at self.now.updates i).props }
     {
-        &self.details[i as usize].props
+        &self.values[self.details.get(i as usize).values as usize]
     }
 
     pub fn time_at<L: Ledger>(&self, i: u32, steps: &mut Steps<L>) -> i64
-        requires { i < length self.now }
-        ensures value { result ≡ (update_at self.now i).time }
+        requires { i < length self.now.updates }
+        ensures value { result ≡ (update_at self.now.updates i).time }
         ensures cost { steps.new ≡ steps.old + 1 }
     {
         self.column.time_at(i as usize, steps)
     }
 
     pub fn order_at<L: Ledger>(&self, i: u32, steps: &mut Steps<L>) -> u32
-        requires { i < length self.now }
-        ensures value { result ≡ (update_at self.now i).order }
+        requires { i < length self.now.updates }
+        ensures value { result ≡ (update_at self.now.updates i).order }
         ensures cost { steps.new ≡ steps.old + 1 }
     {
         self.column.order_at(i as usize, steps)
     }
 
+    /// Makes room for one more update with these values.
+    pub fn reserve(&mut self, props: &KeyValues) -> Result<(), AllocError>
+        ensures updates { self.new.updates ≡ self.old.updates }
+        ensures room { OnOk result (HasRoomFor props.now self.new) }
+        ensures free { HasRoomFor props.now self.old → IsOk result }
+        ensures spare { self.old.spare ≤ self.new.spare }
+        ensures spare_values { self.old.spare_values ≤ self.new.spare_values }
+        ensures err { OnErr result (self.new ≡ self.old) }
+    {
+        if props.len() > 0 {
+            self.values.reserve(1)?;
+        }
+        self.column.reserve()?;
+        self.details.reserve()
+    }
+
     /// Places an update after all whose time and order are not greater.
     pub fn put<L: Ledger>(&mut self, update: Update, steps: &mut Steps<L>) -> Result<(), AllocError>
-        requires last { All (λ u. u.arrival < update.arrival) self.old }
-        requires room { length self.old < 2 ^ 32 - 1 }
-        requires kinds { OfOneSort (update ∷ self.old) }
-        ensures ok { OnOk result (self.new ≡ placed update self.old) }
+        requires last { All (λ u. u.arrival < update.arrival) self.old.updates }
+        requires room { length self.old.updates < 2 ^ 32 - 1 }
+        requires kinds { OfOneSort (update ∷ self.old.updates) }
+        ensures ok { OnOk result (self.new.updates ≡ placed update self.old.updates) }
         ensures err { OnErr result (self.new ≡ self.old) }
-        ensures cost { steps.new ≤ steps.old + (digits (length self.old) + 1) }
+        ensures free { HasRoomFor update.props self.old → IsOk result }
+        ensures spare { self.old.spare ≤ self.new.spare + 1 }
+        ensures spare_values { self.old.spare_values ≤ self.new.spare_values + 1 }
+        ensures cost { steps.new ≤ steps.old + (digits (length self.old.updates) + 1) }
+        ensures cost_at_end { ComesLast update self.old.updates → steps.new ≤ steps.old + 1 }
+    {
+        let at = self.place_of(update.time, update.order, steps);
+        self.reserve(&update.props)?;
+        self.place(at, update);
+        Ok(())
+    }
+
+    /// The place after all updates whose time and order are not greater. The last is tried first.
+    fn place_of<L: Ledger>(&self, time: i64, order: u32, steps: &mut Steps<L>) -> usize
+        ensures within { result ≤ length self.now.updates }
+        ensures before { (k : ℕ) → k < result → is_not_after time order (stamp_of (update_at self.now.updates k)) ≡ true }
+        ensures after { (k : ℕ) → result ≤ k → k < length self.now.updates → is_not_after time order (stamp_of (update_at self.now.updates k)) ≡ false }
+        ensures cost { steps.new ≤ steps.old + (digits (length self.now.updates) + 1) }
+        ensures cost_at_end { ((k : ℕ) → k < length self.now.updates → is_not_after time order (stamp_of (update_at self.now.updates k)) ≡ true) → steps.new ≤ steps.old + 1 }
+    {
+        last_place(&self.column, Probe::NotAfter(time, order), steps)
+    }
+
+    /// Puts an update before the one at a place, where there is room for it.
+    fn place(&mut self, at: usize, update: Update)
+        requires within { at ≤ length self.old.updates }
+        requires before { (k : ℕ) → k < at → is_not_after update.time update.order (stamp_of (update_at self.old.updates k)) ≡ true }
+        requires after { (k : ℕ) → at ≤ k → k < length self.old.updates → is_not_after update.time update.order (stamp_of (update_at self.old.updates k)) ≡ false }
+        requires last { All (λ u. u.arrival < update.arrival) self.old.updates }
+        requires fits { length self.old.updates < 2 ^ 32 - 1 }
+        requires room { HasRoomFor update.props self.old }
+        ensures updates { self.new.updates ≡ placed update self.old.updates }
+        ensures spare { self.old.spare ≤ self.new.spare + 1 }
+        ensures spare_values { self.old.spare_values ≤ self.new.spare_values + 1 }
     {
         let Update {
             time,
@@ -129,17 +198,20 @@ impl History {
             kind,
             props,
         } = update;
-        let at = last_place(&self.column, Probe::NotAfter(time, order), steps);
-        self.column.reserve()?;
-        self.details.insert(at, Detail { kind, props })?;
         let _ = self.column.insert(at, time, order, arrival);
-        Ok(())
+        if props.len() == 0 {
+            self.details.put(at, Detail { kind, values: 0 });
+            return;
+        }
+        let values = self.values.len() as u32;
+        self.details.put(at, Detail { kind, values });
+        self.values.push_reserved(props);
     }
 
     /// Whether what comes before a place is carried over it.
     fn carries_over(&self, model: Lasting, from: u32) -> bool
-        requires { from ≤ length self.now }
-        ensures { result ≡ carries model self.now from }
+        requires { from ≤ length self.now.updates }
+        ensures { result ≡ carries model self.now.updates from }
     {
         match model {
             Lasting::Event => false,
@@ -147,7 +219,23 @@ impl History {
         }
     }
 
-    /// The span of a window, from a span.
+    /// The first place from one up to another whose time is not earlier than a moment, or the end.
+    /// Times never fall.
+    fn first_from<L: Ledger>(&self, from: u32, to: u32, time: i64, steps: &mut Steps<L>) -> u32
+        requires order { from ≤ to }
+        requires end { to ≤ length self.now.updates }
+        ensures from { from ≤ result }
+        ensures to { result ≤ to }
+        ensures before { (k : ℕ) → from ≤ k → k < result → (update_at self.now.updates k).time <ℤ time }
+        ensures after { (k : ℕ) → result ≤ k → k < to → time ≤ℤ (update_at self.now.updates k).time }
+        ensures rise { TimesRise self.now.updates }
+        ensures cost { steps.new ≤ steps.old + digits (to - from) }
+    {
+        let probe = Probe::Earlier(time);
+        first_after(&self.column, from as usize, to as usize, probe, steps) as u32
+    }
+
+    /// The span of the window `cut`, from a span of the bounds that it lies in.
     pub fn clip<L: Ledger>(
         &self,
         span: Span,
@@ -156,13 +244,13 @@ impl History {
         model: Lasting,
         steps: &mut Steps<L>,
     ) -> Span
-        requires span { IsSpan self.now span }
-        requires taken { IsTaken model bounds self.now span }
+        requires span { IsSpan self.now.updates span }
+        requires taken { IsTaken model bounds self.now.updates span }
         requires part { IsPart bounds cut }
-        requires allowed { IsAllowed model self.now }
-        ensures span { IsSpan self.now result }
-        ensures taken { IsTaken model cut self.now result }
-        ensures clipped { IsClipped model bounds cut self.now span result }
+        requires allowed { IsAllowed model self.now.updates }
+        ensures span { IsSpan self.now.updates result }
+        ensures taken { IsTaken model cut self.now.updates result }
+        ensures clipped { IsClipped model bounds cut self.now.updates span result }
         ensures cost { steps.new ≤ steps.old + 2 * (digits (span.to - span.from) + 1) }
     {
         if cut.is_empty() {
@@ -172,62 +260,33 @@ impl History {
                 carried: false,
             };
         }
-        if span.is_bare() {
+        if span.is_empty() {
             return span;
         }
-        let (from, to) = inside(
-            &self.column,
-            span.from as usize,
-            span.to as usize,
-            cut,
-            steps,
-        );
-        let carried = self.carries_over(model, from as u32);
-        Span {
-            from: from as u32,
-            to: to as u32,
-            carried,
-        }
-    }
-
-    /// The first place of a span whose time is not earlier than a moment, or its end. Times never fall.
-    fn first_from<L: Ledger>(&self, span: Span, time: i64, steps: &mut Steps<L>) -> u32
-        requires span { IsSpan self.now span }
-        ensures from { span.from ≤ result }
-        ensures to { result ≤ span.to }
-        ensures before { (k : ℕ) → span.from ≤ k → k < result → (update_at self.now k).time <ℤ time }
-        ensures after { (k : ℕ) → result ≤ k → k < span.to → time ≤ℤ (update_at self.now k).time }
-        ensures rise { TimesRise self.now }
-        ensures cost { steps.new ≤ steps.old + digits (span.to - span.from) }
-    {
-        let probe = Probe::Earlier(time);
-        first_after(
-            &self.column,
-            span.from as usize,
-            span.to as usize,
-            probe,
-            steps,
-        ) as u32
+        let from = self.first_from(span.from, span.to, cut.lo(), steps);
+        let to = self.first_from(from, span.to, cut.hi(), steps);
+        let carried = self.carries_over(model, from);
+        Span { from, to, carried }
     }
 
     /// Whether a span has an update at a moment.
     fn happens_at<L: Ledger>(&self, span: Span, m: i64, steps: &mut Steps<L>) -> bool
-        requires span { IsSpan self.now span }
-        ensures happens { HappensAt self.now span m result }
+        requires span { IsSpan self.now.updates span }
+        ensures happens { HappensAt self.now.updates span m result }
         ensures cost { steps.new ≤ steps.old + (digits (span.to - span.from) + 1) }
     {
-        let at = self.first_from(span, m, steps);
+        let at = self.first_from(span.from, span.to, m, steps);
         at < span.to && same_moment(self.time_at(at, steps), m)
     }
 
     /// Whether the edge of a span lasts over a moment inside the bounds.
     fn lasts_at<L: Ledger>(&self, span: Span, m: i64, steps: &mut Steps<L>) -> bool
-        requires span { IsSpan self.now span }
+        requires span { IsSpan self.now.updates span }
         requires below { m <ℤ latest }
-        ensures alive { (bounds : Interval) → is_inside bounds m ≡ true → IsAliveAt Persistent bounds self.now span m result }
+        ensures alive { (bounds : Interval) → is_inside bounds m ≡ true → IsAliveAt Persistent bounds self.now.updates span m result }
         ensures cost { steps.new ≤ steps.old + digits (span.to - span.from) }
     {
-        let at = self.first_from(span, m + 1, steps);
+        let at = self.first_from(span.from, span.to, m + 1, steps);
         if at > span.from {
             !self.kind_at(at - 1).is_deletion()
         } else {
@@ -244,10 +303,10 @@ impl History {
         m: i64,
         steps: &mut Steps<L>,
     ) -> bool
-        requires span { IsSpan self.now span }
-        requires taken { IsTaken model bounds self.now span }
-        requires allowed { IsAllowed model self.now }
-        ensures alive { IsAliveAt model bounds self.now span m result }
+        requires span { IsSpan self.now.updates span }
+        requires taken { IsTaken model bounds self.now.updates span }
+        requires allowed { IsAllowed model self.now.updates }
+        ensures alive { IsAliveAt model bounds self.now.updates span m result }
         ensures cost { steps.new ≤ steps.old + (digits (span.to - span.from) + 1) }
     {
         match model {
@@ -258,9 +317,9 @@ impl History {
 
     /// Whether the edge of a span is alive at some moment, where it lasts until it is deleted.
     fn ever_alive<L: Ledger>(&self, span: Span, bounds: Bounds, steps: &mut Steps<L>) -> bool
-        requires span { IsSpan self.now span }
-        requires taken { IsTaken Persistent bounds self.now span }
-        ensures present { IsPresent Persistent bounds self.now span result }
+        requires span { IsSpan self.now.updates span }
+        requires taken { IsTaken Persistent bounds self.now.updates span }
+        ensures present { IsPresent Persistent bounds self.now.updates span result }
     {
         let _column = &self.column;
         if span.from == span.to {
@@ -279,8 +338,8 @@ impl History {
 
     /// Whether an update is later than a moment.
     fn is_later<L: Ledger>(&self, i: u32, m: i64, steps: &mut Steps<L>) -> bool
-        requires { i < length self.now }
-        ensures { result ≡ int_lt m (update_at self.now i).time }
+        requires { i < length self.now.updates }
+        ensures { result ≡ int_lt m (update_at self.now.updates i).time }
     {
         m < self.time_at(i, steps)
     }
@@ -288,8 +347,8 @@ impl History {
     /// Whether an update adds an edge, and the next before `to` is later.
     fn is_final<L: Ledger>(&self, i: u32, to: u32, steps: &mut Steps<L>) -> bool
         requires place { i < to }
-        requires end { to ≤ length self.now }
-        ensures { result ≡ is_final_at self.now i to }
+        requires end { to ≤ length self.now.updates }
+        ensures { result ≡ is_final_at self.now.updates i to }
     {
         if self.kind_at(i).is_deletion() {
             return false;
@@ -309,10 +368,10 @@ impl History {
         model: Lasting,
         steps: &mut Steps<L>,
     ) -> bool
-        requires span { IsSpan self.now span }
-        requires taken { IsTaken model bounds self.now span }
-        requires allowed { IsAllowed model self.now }
-        ensures present { IsPresent model bounds self.now span result }
+        requires span { IsSpan self.now.updates span }
+        requires taken { IsTaken model bounds self.now.updates span }
+        requires allowed { IsAllowed model self.now.updates }
+        ensures present { IsPresent model bounds self.now.updates span result }
         ensures free { model ≡ Instants → steps.new ≡ steps.old }
     {
         match model {
@@ -323,8 +382,8 @@ impl History {
 
     /// The kind of the last event of a span.
     pub fn last_kind(&self, span: Span) -> Option<Kind>
-        requires span { IsSpan self.now span }
-        ensures { IsLastKind self.now span result }
+        requires span { IsSpan self.now.updates span }
+        ensures { IsLastKind self.now.updates span result }
     {
         if span.from < span.to {
             Some(self.kind_at(span.to - 1))
@@ -338,13 +397,14 @@ impl History {
     /// The last value of a key among the updates from one place up to another that no deletion follows.
     fn value_in(&self, start: u32, to: u32, key: u32) -> Option<&Value>
         requires order { start ≤ to }
-        requires end { to ≤ length self.now }
-        ensures { IsValueIn self.now start to key (option_copied result) }
+        requires end { to ≤ length self.now.updates }
+        ensures { IsValueIn self.now.updates start to key (option_copied result) }
     {
         let mut i = to;
         while i > start {
             i -= 1;
-            if self.kind_at(i).is_deletion() {
+            let kind = self.kind_at(i);
+            if kind.is_deletion() {
                 return None;
             }
             if let Some(value) = self.values_at(i).find(key) {
@@ -356,8 +416,8 @@ impl History {
 
     /// The value of a key in a span.
     pub fn value(&self, span: Span, key: u32) -> Option<&Value>
-        requires span { IsSpan self.now span }
-        ensures { IsValue self.now span key (option_copied result) }
+        requires span { IsSpan self.now.updates span }
+        ensures { IsValue self.now.updates span key (option_copied result) }
     {
         let start = if span.carried { 0 } else { span.from };
         self.value_in(start, span.to, key)
@@ -365,11 +425,11 @@ impl History {
 
     /// The time of the first update of a span that is later than a moment.
     fn next_update<L: Ledger>(&self, span: Span, after: i64, steps: &mut Steps<L>) -> Option<i64>
-        requires span { IsSpan self.now span }
+        requires span { IsSpan self.now.updates span }
         requires below { after <ℤ latest }
-        ensures { IsNextUpdate self.now span after result }
+        ensures { IsNextUpdate self.now.updates span after result }
     {
-        let at = self.first_from(span, after + 1, steps);
+        let at = self.first_from(span.from, span.to, after + 1, steps);
         if at < span.to {
             Some(self.time_at(at, steps))
         } else {
@@ -385,11 +445,11 @@ impl History {
         after: i64,
         steps: &mut Steps<L>,
     ) -> Option<i64>
-        requires span { IsSpan self.now span }
-        requires taken { IsTaken Instants bounds self.now span }
-        requires allowed { IsAllowed Instants self.now }
+        requires span { IsSpan self.now.updates span }
+        requires taken { IsTaken Instants bounds self.now.updates span }
+        requires allowed { IsAllowed Instants self.now.updates }
         requires below { after <ℤ latest }
-        ensures { IsNextContact Instants bounds self.now span after result }
+        ensures { IsNextContact Instants bounds self.now.updates span after result }
     {
         self.next_update(span, after, steps)
     }
@@ -402,11 +462,11 @@ impl History {
         after: i64,
         steps: &mut Steps<L>,
     ) -> Option<i64>
-        requires span { IsSpan self.now span }
-        requires cut { IsCut Persistent bounds self.now span }
+        requires span { IsSpan self.now.updates span }
+        requires cut { IsCut Persistent bounds self.now.updates span }
         requires below { after <ℤ latest }
         requires high { bounds.hi ≤ℤ latest }
-        ensures { IsNextContact Persistent bounds self.now span after result }
+        ensures { IsNextContact Persistent bounds self.now.updates span after result }
     {
         let first = later_of(after + 1, bounds.lo());
         if !bounds.holds(first) {
@@ -415,7 +475,7 @@ impl History {
         if self.lasts_at(span, first, steps) {
             return Some(first);
         }
-        let at = self.first_from(span, first + 1, steps);
+        let at = self.first_from(span.from, span.to, first + 1, steps);
         for i in at..span.to {
             if self.is_final(i, span.to, steps) {
                 return Some(self.time_at(i, steps));
@@ -433,12 +493,12 @@ impl History {
         after: i64,
         steps: &mut Steps<L>,
     ) -> Option<i64>
-        requires span { IsSpan self.now span }
-        requires taken { IsTaken model bounds self.now span }
-        requires allowed { IsAllowed model self.now }
-        ensures { IsNextContact model bounds self.now span after result }
+        requires span { IsSpan self.now.updates span }
+        requires taken { IsTaken model bounds self.now.updates span }
+        requires allowed { IsAllowed model self.now.updates }
+        ensures { IsNextContact model bounds self.now.updates span after result }
     {
-        if span.is_bare() {
+        if span.is_empty() {
             return None;
         }
         let hi = bounds.hi();

@@ -1,15 +1,18 @@
 //! Updates of a node or an edge.
-ghost use Rattle.std.specs.Prelude.{◌≡◌, ℕ, ◌<◌, [], ◌∷◌, ◌++◌, length, OnOk, OnErr};
+ghost use Rattle.std.specs.Prelude.{◌≡◌, ℕ, ◌<◌, [], ◌∷◌, ◌++◌, length, map, OnOk, OnErr, Some, slice_get};
 ghost use Rattle.std.specs.List.{All};
 ghost use Rattle.std.specs.Option.{option_copied};
 
 use graph_model::Value;
+use smallvec::SmallVec;
 use std::alloc::{AllocError, Global};
+use std::default::MadeWith;
 use std::marker::Model;
 
-/// What an update does.
-#[derive(Clone, Copy, Drop)]
+/// What an update does: it updates a node, or adds or deletes an edge.
+#[derive(Clone, Copy, Default, Drop)]
 pub enum Kind {
+    #[default]
     Node,
     Add,
     Delete,
@@ -18,6 +21,7 @@ pub enum Kind {
 impl Kind {
     ghost use Rattle.time_history.specs.Kinds.{is_delete};
 
+    /// Whether it deletes an edge.
     pub fn is_deletion(self) -> bool
         ensures { result ≡ is_delete self }
     {
@@ -25,10 +29,21 @@ impl Kind {
     }
 }
 
+/// A value of a key.
 #[derive(Drop)]
 struct KeyValue {
     key: u32,
     value: Value,
+}
+
+/// What stands at a place that is not used.
+impl Default for KeyValue {
+    fn default() -> KeyValue {
+        KeyValue {
+            key: 0,
+            value: Value::Int(0),
+        }
+    }
 }
 
 ghost use Rattle.time_history.specs.KeyValues.{value_at_key};
@@ -45,10 +60,11 @@ fn find_key(items: &[KeyValue], key: u32) -> Option<&Value>
     None
 }
 
-/// Values by the numbers of their keys, which rise.
+/// Values by the numbers of their keys, which rise. A contract sees the pairs. One value takes no
+/// memory of its own.
 #[derive(Drop)]
 pub struct KeyValues {
-    items: Vec<KeyValue>,
+    items: SmallVec<KeyValue, 1>,
 }
 
 impl Model for KeyValues {
@@ -64,12 +80,24 @@ impl Model for KeyValues {
     ghost invariant = { λ a. KeysRise (pairs_of a.items.items) };
 }
 
+/// No value.
+impl MadeWith<Global> for KeyValues {
+    ghost is_made_with = { λ x. x ≡ [] };
+
+    fn made_with(alloc: Global) -> KeyValues {
+        KeyValues::new(alloc)
+    }
+}
+
 impl KeyValues {
+    ghost use Rattle.time_history.specs.KeyValues.{KeysRise, value_at_key};
+
+    /// No value.
     pub fn new(alloc: Global) -> KeyValues
         ensures { result ≡ [] }
     {
         KeyValues {
-            items: Vec::new(alloc),
+            items: SmallVec::new(alloc),
         }
     }
 
@@ -84,20 +112,36 @@ impl KeyValues {
     }
 
     pub fn len(&self) -> usize
-        ensures { result ≡ length self.now }
+        ensures len { result ≡ length self.now }
+        ensures rise { KeysRise self.now }
     {
         self.items.len()
     }
 
+    pub fn key_at(&self, i: usize) -> u32
+        requires { i < length self.now }
+        ensures { slice_get (map (λ p. p.0) self.now) i ≡ Some result }
+    {
+        self.items[i].key
+    }
+
+    pub fn value_at(&self, i: usize) -> &Value
+        requires { i < length self.now }
+        ensures { slice_get (map (λ p. p.1) self.now) i ≡ Some result.now }
+    {
+        &self.items[i].value
+    }
+
     /// The value of a key.
-    pub fn find(&self, key: u32) -> Option<&Value>
+    pub(crate) fn find(&self, key: u32) -> Option<&Value>
         ensures { option_copied result ≡ value_at_key key self.now }
     {
         find_key(self.items.as_slice(), key)
     }
 }
 
-/// An update of a node or an edge.
+/// An update of a node or an edge. Among updates of one time the order comes first, and then the
+/// number of the arrival.
 #[derive(Drop)]
 pub struct Update {
     pub time: i64,
@@ -105,11 +149,4 @@ pub struct Update {
     pub arrival: u64,
     pub kind: Kind,
     pub props: KeyValues,
-}
-
-/// What an update does, and the values that it sets.
-#[derive(Drop)]
-pub(crate) struct Detail {
-    pub(crate) kind: Kind,
-    pub(crate) props: KeyValues,
 }

@@ -14,6 +14,6 @@ past hi after bound f g e h = le_from_test bound after (sym (λ i. int_le ((to_z
 
 pub returns-then-after-hi : goal.returns-then-after-hi
 returns-then-after-hi g c =
-    next_past c.args.model c.args.bounds c.args.self.now c.args.span c.args.after c.requires.span c.requires.allowed
-    (cut_of_taken (λ b. false_is_true (c.if-is_bare.ensures.1 b)) c.requires.taken)
+    next_past c.args.model c.args.bounds c.args.self.now.updates c.args.span c.args.after c.requires.span c.requires.allowed
+    (cut_of_taken (λ b. false_is_true (c.if-is_empty.ensures.1 b)) c.requires.taken)
     (past c.hi-hi.result c.args.after c.args.bounds.hi (record { sfits = c.hi-hi.type_inv }) c.ranges.after c.hi-hi.ensures.value c.if-after-hi.true)

@@ -30,15 +30,15 @@ returns-then-not-holds g c =
     let fits : SFits w64 (c.args.after +ℤ pos 1) = search rules in
     let plain = to_z-of_z w64 c.later_of-first.result (record { sfits = c.later_of-first.type_inv }) in
     let is = max_is c.later_of-first.result c.args.after c.lo.result c.args.bounds.lo c.ranges.after fits (record { sfits = c.lo.type_inv }) c.lo.ensures.value c.later_of-first.ensures in
-    next_beyond c.args.self.now c.args.bounds c.args.span c.args.after c.later_of-first.result c.requires.span c.requires.cut is (subst (λ m. is_inside c.args.bounds m ≡ false) plain (sym c.if-not-holds.ensures.inside))
+    next_beyond c.args.self.now.updates c.args.bounds c.args.span c.args.after c.later_of-first.result c.requires.span c.requires.cut is (subst (λ m. is_inside c.args.bounds m ≡ false) plain (sym c.if-not-holds.ensures.inside))
 
 pub returns-then-lasts_at : goal.returns-then-lasts_at
 returns-then-lasts_at g c =
     let fits : SFits w64 (c.args.after +ℤ pos 1) = search rules in
     let plain = to_z-of_z w64 c.later_of-first.result (record { sfits = c.later_of-first.type_inv }) in
     let is = max_is c.later_of-first.result c.args.after c.lo.result c.args.bounds.lo c.ranges.after fits (record { sfits = c.lo.type_inv }) c.lo.ensures.value c.later_of-first.ensures in
-    subst (λ m. IsNextContact Persistent c.args.bounds c.args.self.now c.args.span c.args.after (Some m)) (sym plain)
-    (next_first c.args.self.now c.args.bounds c.args.span c.args.after c.later_of-first.result c.requires.span c.requires.cut is (subst (λ m. IsAliveAt Persistent c.args.bounds c.args.self.now c.args.span m true) plain (c.if-lasts_at.ensures.alive c.args.bounds (sym c.if-not-holds.ensures.inside))))
+    subst (λ m. IsNextContact Persistent c.args.bounds c.args.self.now.updates c.args.span c.args.after (Some m)) (sym plain)
+    (next_first c.args.self.now.updates c.args.bounds c.args.span c.args.after c.later_of-first.result c.requires.span c.requires.cut is (subst (λ m. IsAliveAt Persistent c.args.bounds c.args.self.now.updates c.args.span m true) plain (c.if-lasts_at.ensures.alive c.args.bounds (sym c.if-not-holds.ensures.inside))))
 
 pub returns-then-is_final : goal.returns-then-is_final
 returns-then-is_final g c =
@@ -46,14 +46,14 @@ returns-then-is_final g c =
     let plain = to_z-of_z w64 c.later_of-first.result (record { sfits = c.later_of-first.type_inv }) in
     let is = max_is c.later_of-first.result c.args.after c.lo.result c.args.bounds.lo c.ranges.after fits (record { sfits = c.lo.type_inv }) c.lo.ensures.value c.later_of-first.ensures in
     let inside = subst (λ m. is_inside c.args.bounds m ≡ true) plain (sym c.if-not-holds.ensures.inside) in
-    let dead : IsAliveAt Persistent c.args.bounds c.args.self.now c.args.span c.later_of-first.result false =
-    subst (λ m. IsAliveAt Persistent c.args.bounds c.args.self.now c.args.span m false) plain (c.if-lasts_at.ensures.alive c.args.bounds (sym c.if-not-holds.ensures.inside)) in
+    let dead : IsAliveAt Persistent c.args.bounds c.args.self.now.updates c.args.span c.later_of-first.result false =
+    subst (λ m. IsAliveAt Persistent c.args.bounds c.args.self.now.updates c.args.span m false) plain (c.if-lasts_at.ensures.alive c.args.bounds (sym c.if-not-holds.ensures.inside)) in
     let f = c.first_from-at.ensures in
     let e = next c.later_of-first.result (record { sfits = c.later_of-first.type_inv }) (next_fits c.later_of-first.result c.args.bounds inside c.requires.high (record { sfits = c.later_of-first.type_inv })) in
-    let before : (k : ℕ) → c.args.span.from ≤ k → k < c.first_from-at.result → (update_at c.args.self.now k).time ≤ℤ c.later_of-first.result = λ k a b. up_to _ _ c.later_of-first.result (f.before k a b) e in
-    let beyond : (k : ℕ) → c.first_from-at.result ≤ k → k < c.args.span.to → c.later_of-first.result <ℤ (update_at c.args.self.now k).time = λ k a b. after _ _ c.later_of-first.result (f.after k a b) e in
-    subst (λ m. IsNextContact Persistent c.args.bounds c.args.self.now c.args.span c.args.after (Some m)) (sym (to_z-of_z w64 c.time_at.result (record { sfits = c.time_at.type_inv }) ∙ c.time_at.ensures.value))
-    (next_final c.args.self.now c.args.bounds c.args.span c.args.after c.later_of-first.result c.requires.span c.requires.cut is f.rise inside dead c.first_from-at.result f.from f.to before beyond c.loop-i.i c.loop-i.auto.i c.loop-i-test.true c.loop-i.invariant (sym c.if-is_final.ensures))
+    let before : (k : ℕ) → c.args.span.from ≤ k → k < c.first_from-at.result → (update_at c.args.self.now.updates k).time ≤ℤ c.later_of-first.result = λ k a b. up_to _ _ c.later_of-first.result (f.before k a b) e in
+    let beyond : (k : ℕ) → c.first_from-at.result ≤ k → k < c.args.span.to → c.later_of-first.result <ℤ (update_at c.args.self.now.updates k).time = λ k a b. after _ _ c.later_of-first.result (f.after k a b) e in
+    subst (λ m. IsNextContact Persistent c.args.bounds c.args.self.now.updates c.args.span c.args.after (Some m)) (sym (to_z-of_z w64 c.time_at.result (record { sfits = c.time_at.type_inv }) ∙ c.time_at.ensures.value))
+    (next_final c.args.self.now.updates c.args.bounds c.args.span c.args.after c.later_of-first.result c.requires.span c.requires.cut is f.rise inside dead c.first_from-at.result f.from f.to before beyond c.loop-i.i c.loop-i.auto.i c.loop-i-test.true c.loop-i.invariant (sym c.if-is_final.ensures))
 
 pub returns : goal.returns
 returns g c =
@@ -61,19 +61,19 @@ returns g c =
     let plain = to_z-of_z w64 c.later_of-first.result (record { sfits = c.later_of-first.type_inv }) in
     let is = max_is c.later_of-first.result c.args.after c.lo.result c.args.bounds.lo c.ranges.after fits (record { sfits = c.lo.type_inv }) c.lo.ensures.value c.later_of-first.ensures in
     let inside = subst (λ m. is_inside c.args.bounds m ≡ true) plain (sym c.if-not-holds.ensures.inside) in
-    let dead : IsAliveAt Persistent c.args.bounds c.args.self.now c.args.span c.later_of-first.result false =
-    subst (λ m. IsAliveAt Persistent c.args.bounds c.args.self.now c.args.span m false) plain (c.if-lasts_at.ensures.alive c.args.bounds (sym c.if-not-holds.ensures.inside)) in
+    let dead : IsAliveAt Persistent c.args.bounds c.args.self.now.updates c.args.span c.later_of-first.result false =
+    subst (λ m. IsAliveAt Persistent c.args.bounds c.args.self.now.updates c.args.span m false) plain (c.if-lasts_at.ensures.alive c.args.bounds (sym c.if-not-holds.ensures.inside)) in
     let f = c.first_from-at.ensures in
     let e = next c.later_of-first.result (record { sfits = c.later_of-first.type_inv }) (next_fits c.later_of-first.result c.args.bounds inside c.requires.high (record { sfits = c.later_of-first.type_inv })) in
-    let before : (k : ℕ) → c.args.span.from ≤ k → k < c.first_from-at.result → (update_at c.args.self.now k).time ≤ℤ c.later_of-first.result = λ k a b. up_to _ _ c.later_of-first.result (f.before k a b) e in
-    let beyond : (k : ℕ) → c.first_from-at.result ≤ k → k < c.args.span.to → c.later_of-first.result <ℤ (update_at c.args.self.now k).time = λ k a b. after _ _ c.later_of-first.result (f.after k a b) e in
+    let before : (k : ℕ) → c.args.span.from ≤ k → k < c.first_from-at.result → (update_at c.args.self.now.updates k).time ≤ℤ c.later_of-first.result = λ k a b. up_to _ _ c.later_of-first.result (f.before k a b) e in
+    let beyond : (k : ℕ) → c.first_from-at.result ≤ k → k < c.args.span.to → c.later_of-first.result <ℤ (update_at c.args.self.now.updates k).time = λ k a b. after _ _ c.later_of-first.result (f.after k a b) e in
     let over = c.loop-i-test.false in
-    next_none c.args.self.now c.args.bounds c.args.span c.args.after c.later_of-first.result c.requires.span c.requires.cut is f.rise inside dead c.first_from-at.result f.from f.to before beyond (λ k a b. c.loop-i.invariant k a (omega arith))
+    next_none c.args.self.now.updates c.args.bounds c.args.span c.args.after c.later_of-first.result c.requires.span c.requires.cut is f.rise inside dead c.first_from-at.result f.from f.to before beyond (λ k a b. c.loop-i.invariant k a (omega arith))
 
 pub loop-i-preserved : goal.loop-i-preserved
 loop-i-preserved g c = λ k a b. elim (split k c.loop-i.i b) [
   | inl lt ↦ c.loop-i.invariant k a lt
-  | inr e ↦ ap (λ n. is_final_at c.args.self.now n c.args.span.to) e ∙ sym c.if-is_final.ensures
+  | inr e ↦ ap (λ n. is_final_at c.args.self.now.updates n c.args.span.to) e ∙ sym c.if-is_final.ensures
 ]
   where
     split : (k i : ℕ) → k < i + 1 → (k < i) ⊎ (k ≡ i)
