@@ -40,12 +40,7 @@ fn set_before(places: &mut Vec<Place>, at: u32, before: u32)
     if (at as usize) >= places.len() {
         return;
     }
-    let place = places[at as usize];
-    places[at as usize] = Place {
-        before,
-        after: place.after,
-        bucket: place.bucket,
-    };
+    places[at as usize].before = before;
 }
 
 /// Lets another item stand after one, if the one is an item.
@@ -56,12 +51,7 @@ fn set_after(places: &mut Vec<Place>, at: u32, after: u32)
     if (at as usize) >= places.len() {
         return;
     }
-    let place = places[at as usize];
-    places[at as usize] = Place {
-        before: place.before,
-        after,
-        bucket: place.bucket,
-    };
+    places[at as usize].after = after;
 }
 
 fn set_place(places: &mut Vec<Place>, item: usize, place: Place)

@@ -60,20 +60,6 @@ fn lead_on(links: &mut Vec<Link>, at: usize, link: u32)
     links[at] = Link { item, next: link };
 }
 
-fn head_of(heads: &[Head], head: usize) -> Head
-    requires { head < length heads.now }
-    ensures { result ≡ head_at heads.now head }
-{
-    heads[head]
-}
-
-fn link_of(links: &[Link], link: usize) -> Link
-    requires { link < length links.now }
-    ensures { result ≡ link_at links.now link }
-{
-    links[link]
-}
-
 /// Lists of items that grow at their ends. A head is the place of a list, counted from 0. Each item
 /// stands with a link, a number by which a walk goes on, and no link stands twice.
 ///
@@ -161,7 +147,7 @@ impl Chains {
         ensures spare_heads { self.new.spare_heads ≡ self.old.spare_heads }
     {
         self.links.reserve(1)?;
-        let last = head_of(self.heads.as_slice(), head as usize).last;
+        let last = self.heads[head as usize].last;
         let link = self.links.len() as u32;
         self.links.push_reserved(Link {
             item,
@@ -186,7 +172,7 @@ impl Chains {
         ensures walk { walk_left self.now.lists result ≡ list_at self.now.lists head }
         ensures once { IsLinkedOnce self.now.lists }
     {
-        let first = head_of(self.heads.as_slice(), head as usize).first;
+        let first = self.heads[head as usize].first;
         if first == NOWHERE { None } else { Some(first) }
     }
 
@@ -199,7 +185,7 @@ impl Chains {
         // A walk from there passes what a walk from the link passes after the link.
         ensures walk { walk_left self.now.lists result ≡ drop 1 (from_link link self.now.lists) }
     {
-        let next = link_of(self.links.as_slice(), link as usize).next;
+        let next = self.links[link as usize].next;
         if next == NOWHERE { None } else { Some(next) }
     }
 
@@ -208,7 +194,7 @@ impl Chains {
         requires link { IsLink self.now.lists link }
         ensures { from_link link self.now.lists ≡ (link, result) ∷ drop 1 (from_link link self.now.lists) }
     {
-        link_of(self.links.as_slice(), link as usize).item
+        self.links[link as usize].item
     }
 
     /// Makes room, so that so many heads and so many items may be added with no memory taken.
