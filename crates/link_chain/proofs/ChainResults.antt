@@ -4,7 +4,8 @@ use Rattle.std.proofs.lemmas.List.{get_or_read}
 use Rattle.link_chain.specs.declared.linked_lists.Head.{Head}
 use Rattle.link_chain.specs.declared.linked_lists.Link.{Link}
 use Rattle.link_chain.specs.Chains.{list_at, from_link, IsLink, IsLinkedOnce}
-use Rattle.link_chain.specs.HeadsAndLinks.{nowhere, head_at, link_at, lists_of, AreChains}
+use Rattle.link_chain.specs.Indexes.{nowhere}
+use Rattle.link_chain.specs.HeadsAndLinks.{head_at, link_at, lists_of, AreChains}
 use Rattle.link_chain.proofs.ChainWalks.{lists_are, there, IsFound, first_found, first_none, next_found, next_none}
 use Rattle.link_chain.proofs.ChainGrowth.{added, appended_first, appended_last, last_place}
 

@@ -1,15 +1,12 @@
 //! Lists of items that are linked by index, and that grow at their ends.
 ghost use Rattle.std.specs.Prelude.{◌≡◌, ℕ, ◌+◌, ◌-◌, ◌^◌, ◌<◌, ◌≤◌, [], ◌∷◌, ◌++◌, length, vec_len, slice_set, drop, OnOk, OnErr, IfOk, IfSome, IsOk};
 ghost use Rattle.std.specs.Vec.{vec_capacity};
-ghost use Rattle.link_chain.specs.Chains.{list_at, link_count, first_link, from_link, walk_left, IsLink, IsLinkedOnce};
+ghost use Rattle.link_chain.specs.Chains.{list_at, link_count, put_last, first_link, from_link, walk_left, IsLink, IsLinkedOnce};
 ghost use Rattle.link_chain.specs.HeadsAndLinks.{head_at, link_at};
 
-use crate::Memory;
+use crate::{Memory, NOWHERE};
 use std::alloc::Global;
 use std::marker::Model;
-
-/// The index that stands for no link.
-const NOWHERE: u32 = u32::MAX;
 
 /// Where a list begins and ends.
 #[derive(Clone, Copy, Drop)]
@@ -137,7 +134,7 @@ impl Chains {
     pub fn append(&mut self, head: u32, item: u32) -> Result<(), Memory>
         requires head { head < length self.old.lists }
         requires few { link_count self.old.lists < 2 ^ 32 - 1 }
-        ensures lists { OnOk result (self.new.lists ≡ slice_set self.old.lists head (list_at self.old.lists head ++ (link_count self.old.lists, item) ∷ [])) }
+        ensures lists { OnOk result (self.new.lists ≡ put_last head item self.old.lists) }
         ensures head_count { length self.new.lists ≡ length self.old.lists }
         ensures link_count { OnOk result (link_count self.new.lists ≡ link_count self.old.lists + 1) }
         ensures err { OnErr result (self.new ≡ self.old) }

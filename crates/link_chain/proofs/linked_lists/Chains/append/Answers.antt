@@ -1,10 +1,10 @@
 use Rattle.std.proofs.Common.{◌≡◌, ◌++◌, ◌∷◌, [], List, length, ap, ◌∙◌, arith}
 use Rattle.std.proofs.lemmas.List.{length-set, get_or_read}
 use Rattle.link_chain.specs.Chains.{list_at, link_count}
-use Rattle.link_chain.proofs.ChainLaws.{link_count-append}
-use Rattle.link_chain.specs.declared.linked_lists.Head.{Head}
+use Rattle.link_chain.proofs.ChainLaws.{link_count-put_last}
 use Rattle.link_chain.specs.declared.linked_lists.Link.{Link}
-use Rattle.link_chain.specs.HeadsAndLinks.{nowhere, head_at}
+use Rattle.link_chain.specs.Indexes.{nowhere}
+use Rattle.link_chain.specs.HeadsAndLinks.{head_at}
 use Rattle.link_chain.proofs.ChainResults.{lt_heads, appended_first_is, appended_last_is, last_place_is}
 use Rattle.link_chain.proofs.linked_lists.Chains.append.Goals as goal
 
@@ -72,10 +72,10 @@ pub returns-then-last-clause-head_count : goal.returns-then-last-clause-head_cou
 returns-then-last-clause-head_count c = ap length (returns-then-last-clause-lists c) ∙ length-set c.args.self.now.lists c.args.head (list_at c.args.self.now.lists c.args.head ++ (link_count c.args.self.now.lists, c.args.item) ∷ [])
 
 pub returns-then-last-clause-link_count : goal.returns-then-last-clause-link_count
-returns-then-last-clause-link_count c = ap link_count (returns-then-last-clause-lists c) ∙ link_count-append c.args.self.now.lists c.args.head (link_count c.args.self.now.lists, c.args.item) c.requires.head
+returns-then-last-clause-link_count c = ap link_count (returns-then-last-clause-lists c) ∙ link_count-put_last c.args.head c.args.item c.args.self.now.lists c.requires.head
 
 pub returns-clause-head_count : goal.returns-clause-head_count
 returns-clause-head_count c = ap length (returns-clause-lists c) ∙ length-set c.args.self.now.lists c.args.head (list_at c.args.self.now.lists c.args.head ++ (link_count c.args.self.now.lists, c.args.item) ∷ [])
 
 pub returns-clause-link_count : goal.returns-clause-link_count
-returns-clause-link_count c = ap link_count (returns-clause-lists c) ∙ link_count-append c.args.self.now.lists c.args.head (link_count c.args.self.now.lists, c.args.item) c.requires.head
+returns-clause-link_count c = ap link_count (returns-clause-lists c) ∙ link_count-put_last c.args.head c.args.item c.args.self.now.lists c.requires.head
