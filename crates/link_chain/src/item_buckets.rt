@@ -21,6 +21,7 @@ fn set_before(places: &mut Vec<Place>, at: u32, before: u32)
     ensures items { places.new.items ≡ with_before places.old.items at before }
     ensures len { vec_len places.new ≡ vec_len places.old }
 {
+    // `NOWHERE` is past the end.
     if (at as usize) >= places.len() {
         return;
     }
@@ -32,13 +33,15 @@ fn set_after(places: &mut Vec<Place>, at: u32, after: u32)
     ensures items { places.new.items ≡ with_after places.old.items at after }
     ensures len { vec_len places.new ≡ vec_len places.old }
 {
+    // `NOWHERE` is past the end.
     if (at as usize) >= places.len() {
         return;
     }
     places[at as usize].after = after;
 }
 
-/// Takes an item out of its bucket: its two neighbours are written, and the bucket's first item if it was that.
+/// Takes an item out of its bucket: its two neighbours are written, and the bucket's first item if
+/// it was that.
 fn unlink(firsts: &mut Vec<u32>, places: &mut Vec<Place>, item: u32)
     requires item { item < length places.old.items }
     requires bucket { (place_at places.old.items item).bucket < length firsts.old.items }
@@ -55,7 +58,8 @@ fn unlink(firsts: &mut Vec<u32>, places: &mut Vec<Place>, item: u32)
     }
 }
 
-/// Puts an item that stands nowhere first in a bucket: the item, the one that was first and the bucket's first item are written.
+/// Puts an item that stands nowhere first in a bucket: the item, the one that was first and the
+/// bucket's first item are written.
 fn link(firsts: &mut Vec<u32>, places: &mut Vec<Place>, item: u32, bucket: u32)
     requires item { item < length places.old.items }
     requires bucket { bucket < length firsts.old.items }

@@ -42,8 +42,7 @@ fn end_with(heads: &mut Vec<Head>, head: usize, link: u32)
     ensures len { vec_len heads.new ≡ vec_len heads.old }
     ensures capacity { vec_capacity heads.new ≡ vec_capacity heads.old }
 {
-    let first = heads[head].first;
-    heads[head] = Head { first, last: link };
+    heads[head].last = link;
 }
 
 /// Lets a link follow another one.
@@ -53,8 +52,7 @@ fn lead_on(links: &mut Vec<Link>, at: usize, link: u32)
     ensures len { vec_len links.new ≡ vec_len links.old }
     ensures capacity { vec_capacity links.new ≡ vec_capacity links.old }
 {
-    let item = links[at].item;
-    links[at] = Link { item, next: link };
+    links[at].next = link;
 }
 
 /// Lists of items that grow at their ends. A head is the place of a list, counted from 0. Each item
