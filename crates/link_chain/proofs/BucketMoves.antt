@@ -1,10 +1,12 @@
 -- What the lists are after an item is taken out, or put in.
-use Rattle.std.proofs.Common.{◌≡◌, ◌≢◌, ℕ, zero, suc, ◌+◌, ◌<◌, ◌≤◌, ◌⊎◌, Bool, true, false, cond, eqb, List, [], ◌∷◌, ◌++◌, length, map, set, refl, sym, ap, ◌∙◌, subst, inl, inr, arith}
+use Rattle.std.proofs.Common.{◌≡◌, ◌≢◌, ℕ, ◌+◌, ◌<◌, ◌≤◌, ◌⊎◌, Bool, true, false, cond, eqb, List, [], ◌∷◌, ◌++◌, length, map, set, refl, sym, ap, ◌∙◌, subst, inl, inr, arith}
 use Rattle.std.proofs.lemmas.Bool.{eqb-true, eq-eqb, ne_eqb, cases_eq, cases_lt}
 use Rattle.std.proofs.lemmas.List.{length-set, length-map, get_or-set_same, get_or-set_other}
 use Rattle.link_chain.specs.declared.item_buckets.Place.{Place}
 use Rattle.link_chain.specs.Buckets.{bucket_at, count_of, take_out, put_first}
-use Rattle.link_chain.specs.FirstsAndPlaces.{nowhere, first_at, place_at, IsSpot, IsRun, AreBuckets, with_after, unlinked_places, unlinked_firsts, linked_places, linked_firsts}
+use Rattle.link_chain.specs.Indexes.{nowhere}
+use Rattle.link_chain.specs.FirstsAndPlaces.{first_at, place_at, IsSpot, IsRun, AreBuckets, with_after, unlinked_places, unlinked_firsts, linked_places, linked_firsts}
+use Rattle.link_chain.proofs.BucketLaws.{bucket_at-take}
 use Rattle.link_chain.proofs.BucketRuns.{count_front, count_append, take_out-none, take_out-front, count-take_out, member, run_same, last_of, last_stands, Parts, parts, IsPart, run_parts, first_part, run_without}
 
 -- the items after one, where another now stands before them
@@ -45,11 +47,6 @@ pub apart : (firsts : List ℕ) (places : List Place) (lists : List (List ℕ)) 
 apart firsts places lists z b k buckets lt kt here there =
     sym (member places b nowhere (first_at firsts b) z (bucket_at lists b) (buckets.runs b lt) here).1
     ∙ (member places k nowhere (first_at firsts k) z (bucket_at lists k) (buckets.runs k kt) there).1
-
-pub map_at : (i : ℕ) (lists : List (List ℕ)) (k : ℕ) → bucket_at (map (take_out i) lists) k ≡ take_out i (bucket_at lists k)
-map_at i [] k = refl
-map_at i (xs ∷ xss) zero = refl
-map_at i (xs ∷ xss) (suc k) = map_at i xss k
 
 pub firsts_length : (t : Bool) (firsts : List ℕ) (b q : ℕ) → length (cond t (set firsts b q) firsts) ≡ length firsts
 firsts_length true firsts b q = length-set firsts b q
@@ -140,11 +137,11 @@ unlinked firsts places lists i b buckets lt here =
     record {
       few = omega (arith, len, buckets.few);
       same = length-map lists (take_out i) ∙ buckets.same ∙ sym (firsts_length (eqb p nowhere) firsts (place_at places i).bucket q);
-      once = λ k z. omega (arith, ap (count_of z) (map_at i lists k), count-take_out z i (bucket_at lists k), buckets.once k z);
+      once = λ k z. omega (arith, ap (count_of z) (bucket_at-take i lists k), count-take_out z i (bucket_at lists k), buckets.once k z);
       runs = λ k kt0. let kt : k < length firsts = omega (arith, kt0, firsts_length (eqb p nowhere) firsts (place_at places i).bucket q) in
           elim (cases_eq k b) [
             | inl e ↦ subst (λ (m : ℕ). IsRun ps m nowhere (first_at (unlinked_firsts firsts places i) m) (bucket_at (map (take_out i) lists) m)) (sym e)
-                (rw (first_is, map_at i lists b, out_is) own)
+                (rw (first_is, bucket_at-take i lists b, out_is) own)
             | inr ne ↦
                 let ys = bucket_at lists k in
                 let gone : (z : ℕ) → 0 < count_of z ys → count_of z xs ≡ 0 = λ z some. elim (cases_lt 0 (count_of z xs)) [
@@ -158,7 +155,7 @@ unlinked firsts places lists i b buckets lt here =
                 let zero_front : (z : ℕ) → 0 < count_of z ys → count_of z pt.front ≡ 0 = λ z some. omega (arith, gone z some, ap (count_of z) pt.whole, count_append z pt.front (i ∷ pt.back)) in
                 let zero_back : (z : ℕ) → 0 < count_of z ys → count_of z pt.back ≡ 0 = λ z some. omega (arith, gone z some, ap (count_of z) pt.whole, count_append z pt.front (i ∷ pt.back)) in
                 let m1 : (place_at places i).bucket ≢ k = λ e. absurd (ne (sym e ∙ part.bucket)) in
-                rw (firsts_other (eqb p nowhere) firsts (place_at places i).bucket q k (λ e. absurd (m1 (sym e))), map_at i lists k, take_out-none i ys no_i)
+                rw (firsts_other (eqb p nowhere) firsts (place_at places i).bucket q k (λ e. absurd (m1 (sym e))), bucket_at-take i lists k, take_out-none i ys no_i)
                 (run_same places ps k nowhere (first_at firsts k) ys len
                 (λ z within some. agree z (other_than z p (length places) pt.front buckets.few within p_where (zero_front z some))
                 (other_than z q (length places) pt.back buckets.few within q_where (zero_back z some))) (buckets.runs k kt))

@@ -1,14 +1,16 @@
 -- Buckets after a call, from the fields after it.
-use Rattle.std.proofs.Common.{◌≡◌, ◌≢◌, ℕ, zero, suc, ◌<◌, ◌≤◌, min, eqb, List, [], ◌∷◌, Option, None, Some, length, map, replicate, refl, sym, ap, ◌∙◌, subst, inl, inr, arith}
+use Rattle.std.proofs.Common.{◌≡◌, ◌≢◌, ℕ, zero, suc, ◌<◌, ◌≤◌, min, eqb, List, [], ◌∷◌, Some, length, map, replicate, refl, sym, ap, ◌∙◌, subst, inl, inr, arith}
 use Rattle.std.proofs.lemmas.Bool.{cases_lt}
 use Rattle.std.proofs.lemmas.List.{length-map, length-replicate, get_or-replicate, get_or-set_other, get_or_past}
 use Rattle.std.proofs.lemmas.List.Sums.{sum_by-cons}
 use Rattle.std.specs.Prelude.{slice_get}
 use Rattle.link_chain.specs.declared.item_buckets.Place.{Place}
 use Rattle.link_chain.specs.Buckets.{bucket_at, count_of, how_often, take_out, put_first}
-use Rattle.link_chain.specs.FirstsAndPlaces.{nowhere, first_at, place_at, buckets_of, IsRun, AreBuckets, IsLeast, unlinked_places, unlinked_firsts, linked_places, linked_firsts}
+use Rattle.link_chain.specs.Indexes.{nowhere}
+use Rattle.link_chain.specs.FirstsAndPlaces.{first_at, place_at, buckets_of, IsRun, AreBuckets, IsLeast, unlinked_places, unlinked_firsts, linked_places, linked_firsts}
+use Rattle.link_chain.proofs.BucketLaws.{bucket_at-take}
 use Rattle.link_chain.proofs.BucketRuns.{buckets_are, member, count_gone}
-use Rattle.link_chain.proofs.BucketMoves.{unlinked, linked, starts, not_empty, apart, map_at, firsts_other}
+use Rattle.link_chain.proofs.BucketMoves.{unlinked, linked, starts, not_empty, apart, firsts_other}
 
 pub record IsMade (firsts : List ℕ) (places : List Place) (want : List (List ℕ)) : Type 0 where
   pub buckets : AreBuckets firsts places (buckets_of firsts places)
@@ -88,7 +90,7 @@ pub move_is : (firsts mid fs : List ℕ) (places half ps : List Place) (now : Li
 move_is firsts mid fs places half ps now i b e buckets it lt some mid_is half_is len fs_is ps_is =
     let here : AreBuckets mid half (map (take_out i) now) = out firsts mid places half now i (subst (AreBuckets firsts places) e buckets) some mid_is half_is in
     let base = linked mid half (map (take_out i) now) i b here (omega (arith, lt, here.same, length-map now (take_out i))) (omega (arith, it, len))
-    (λ k. ap (count_of i) (map_at i now k) ∙ count_gone i (bucket_at now k)) in
+    (λ k. ap (count_of i) (bucket_at-take i now k) ∙ count_gone i (bucket_at now k)) in
     made fs ps (put_first i b (map (take_out i) now))
     (subst (λ (xs : List ℕ). AreBuckets xs ps (put_first i b (map (take_out i) now))) (sym fs_is)
     (subst (λ (xs : List Place). AreBuckets (linked_firsts mid i b) xs (put_first i b (map (take_out i) now))) (sym ps_is) base))

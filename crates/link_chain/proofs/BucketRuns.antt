@@ -2,9 +2,11 @@
 use Rattle.std.proofs.Common.{◌≡◌, ◌≢◌, ℕ, zero, suc, ◌+◌, ◌<◌, ◌≤◌, Bool, true, false, cond, eqb, ltb, List, [], ◌∷◌, ◌++◌, length, refl, sym, ap, ◌∙◌, subst, arith}
 use Rattle.std.proofs.lemmas.Bool.{lt-ltb, le-ltb, eqb-true, eq-eqb}
 use Rattle.std.proofs.lemmas.List.{length-map, get_or-map, ext_get_or}
+use Rattle.link_chain.proofs.BucketLaws.{count_of-take}
 use Rattle.link_chain.specs.declared.item_buckets.Place.{Place}
 use Rattle.link_chain.specs.Buckets.{bucket_at, count_of, take_out}
-use Rattle.link_chain.specs.FirstsAndPlaces.{nowhere, first_at, place_at, run, buckets_of, IsSpot, IsRun, AreBuckets}
+use Rattle.link_chain.specs.Indexes.{nowhere}
+use Rattle.link_chain.specs.FirstsAndPlaces.{first_at, place_at, run, buckets_of, IsSpot, IsRun, AreBuckets}
 
 pub count_front : (x : ℕ) (xs : List ℕ) → 0 < count_of x (x ∷ xs)
 count_front x xs = rw (eq-eqb x x refl) (omega arith)
@@ -17,17 +19,15 @@ pub length-take_out : (i : ℕ) (xs : List ℕ) → length (take_out i xs) + cou
 length-take_out i [] = omega arith
 length-take_out i (x ∷ xs) = grind (arith, length-take_out i xs)
 
-pub count-take_out : (z i : ℕ) (xs : List ℕ) → count_of z (take_out i xs) ≤ count_of z xs
-count-take_out z i [] = omega arith
-count-take_out z i (x ∷ xs) = grind (arith, count-take_out z i xs)
+le_cond : (t : Bool) (n : ℕ) → cond t 0 n ≤ n
+le_cond true n = omega arith
+le_cond false n = omega arith
 
-gone_split : (i x : ℕ) (xs : List ℕ) (b : Bool) → eqb x i ≡ b → count_of i (take_out i xs) ≡ 0 → count_of i (cond b (take_out i xs) (x ∷ take_out i xs)) ≡ 0
-gone_split i x xs true e ih = ih
-gone_split i x xs false e ih = rw e (omega (arith, ih))
+pub count-take_out : (z i : ℕ) (xs : List ℕ) → count_of z (take_out i xs) ≤ count_of z xs
+count-take_out z i xs = omega (arith, count_of-take z i xs, le_cond (eqb i z) (count_of z xs))
 
 pub count_gone : (i : ℕ) (xs : List ℕ) → count_of i (take_out i xs) ≡ 0
-count_gone i [] = refl
-count_gone i (x ∷ xs) = gone_split i x xs (eqb x i) refl (count_gone i xs)
+count_gone i xs = let e : eqb i i ≡ true = eq-eqb i i refl in count_of-take i i xs ∙ rw e refl
 
 pub take_out-none : (i : ℕ) (xs : List ℕ) → count_of i xs ≡ 0 → take_out i xs ≡ xs
 take_out-none i [] none = refl

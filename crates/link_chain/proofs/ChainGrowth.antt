@@ -6,7 +6,8 @@ use Rattle.std.proofs.lemmas.List.Sums.{sum_by-cons, sum_by-set, sum_by_push, ge
 use Rattle.link_chain.specs.declared.linked_lists.Head.{Head}
 use Rattle.link_chain.specs.declared.linked_lists.Link.{Link}
 use Rattle.link_chain.specs.Chains.{list_at, times}
-use Rattle.link_chain.specs.HeadsAndLinks.{nowhere, head_at, link_at, IsStep, IsWalk, last_link, AreChains}
+use Rattle.link_chain.specs.Indexes.{nowhere}
+use Rattle.link_chain.specs.HeadsAndLinks.{head_at, link_at, IsStep, IsWalk, last_link, AreChains}
 
 pub no_head : Head
 no_head = record { first = nowhere; last = nowhere }

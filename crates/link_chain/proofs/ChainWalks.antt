@@ -1,12 +1,13 @@
 -- Walks along links, and what a new link changes.
-use Rattle.std.proofs.Common.{◌≡◌, ◌≢◌, ℕ, zero, suc, ◌+◌, ◌<◌, ◌≤◌, Bool, true, false, cond, eqb, ltb, List, [], ◌∷◌, ◌++◌, length, drop, Option, None, Some, sum_by, refl, sym, ap, ◌∙◌, subst, arith}
+use Rattle.std.proofs.Common.{◌≡◌, ◌≢◌, ℕ, zero, suc, ◌+◌, ◌<◌, ◌≤◌, Bool, true, false, cond, eqb, ltb, List, [], ◌∷◌, ◌++◌, length, drop, Some, sum_by, refl, sym, ap, ◌∙◌, subst, arith}
 use Rattle.std.proofs.lemmas.Bool.{lt-ltb, le-ltb, eqb-true, eq-eqb}
 use Rattle.std.proofs.lemmas.List.{append-nil, length-map, get_or-map, ext_get_or}
 use Rattle.std.proofs.lemmas.List.Sums.{sum_by-cons, get_or-le-sum_by}
 use Rattle.link_chain.specs.declared.linked_lists.Head.{Head}
 use Rattle.link_chain.specs.declared.linked_lists.Link.{Link}
 use Rattle.link_chain.specs.Chains.{list_at, rest, from_link, first_link, times, IsLink}
-use Rattle.link_chain.specs.HeadsAndLinks.{nowhere, head_at, link_at, walk, lists_of, IsWalk, AreChains}
+use Rattle.link_chain.specs.Indexes.{nowhere}
+use Rattle.link_chain.specs.HeadsAndLinks.{head_at, link_at, walk, lists_of, IsWalk, AreChains}
 
 -- two walks from one link are one
 pub walk_one : (links : List Link) (l : ℕ) (xs ys : List (ℕ × ℕ)) → length links ≤ nowhere → IsWalk links l xs → IsWalk links l ys → xs ≡ ys

@@ -1,5 +1,5 @@
 -- Chains as a contract sees them: lists of pairs of a link and an item.
-use Rattle.std.specs.Prelude.{ℕ, List, [], ◌∷◌, ◌++◌, ◌+◌, ◌<◌, ◌≤◌, Option, None, Some, cond, nat_eq, length, map, slice_index_or}
+use Rattle.std.specs.Prelude.{ℕ, List, [], ◌∷◌, ◌++◌, ◌+◌, ◌<◌, ◌≤◌, Option, None, Some, cond, nat_eq, length, map, slice_index_or, slice_set}
 use Rattle.std.specs.List.{sum_by}
 
 -- the lists, by their heads, and how many heads and how many links more need no memory
@@ -19,6 +19,10 @@ items_at lists head = map (λ p. p.1) (list_at lists head)
 -- how many links there are
 abbrev pub link_count : List (List (ℕ × ℕ)) → ℕ
 link_count lists = sum_by length lists
+
+-- the lists with an item, under the next link, at the end of one of them
+abbrev pub put_last : ℕ → ℕ → List (List (ℕ × ℕ)) → List (List (ℕ × ℕ))
+put_last head item lists = slice_set lists head (list_at lists head ++ (link_count lists, item) ∷ [])
 
 -- how often a link stands in a list
 abbrev pub times : ℕ → List (ℕ × ℕ) → ℕ

@@ -1,11 +1,8 @@
 -- Buckets as they lie in memory: the first item of each bucket, and the place of each item.
 use Rattle.std.specs.Prelude.{ℕ, List, [], ◌∷◌, ◌≡◌, ◌≢◌, ◌<◌, ◌≤◌, zero, suc, cond, nat_eq, nat_lt, length, map, slice_index_or, slice_set}
+use Rattle.link_chain.specs.Indexes.{nowhere}
 use Rattle.link_chain.specs.declared.item_buckets.Place.{Place}
 use Rattle.link_chain.specs.Buckets.{bucket_at, count_of}
-
--- the index that stands for no item; so there are at most so many items
-abbrev pub nowhere : ℕ
-nowhere = 4294967295
 
 -- the first item of a bucket, and none past the last bucket
 abbrev pub first_at : List ℕ → ℕ → ℕ
@@ -48,6 +45,12 @@ pub record IsLeast (firsts : List ℕ) (low : ℕ) : Type 0 where
   pub within : low ≤ length firsts
   pub below : (b : ℕ) → b < low → first_at firsts b ≡ nowhere
   pub some : low < length firsts → first_at firsts low ≢ nowhere
+
+-- what the fields of buckets keep
+pub record AreKept (firsts : List ℕ) (places : List Place) (low : ℕ) : Type 0 where
+  pub buckets : AreBuckets firsts places (buckets_of firsts places)
+  pub least : IsLeast firsts low
+  pub few : length firsts ≤ nowhere
 
 -- the places where another item stands before one; past the end nothing changes
 abbrev pub with_before : List Place → ℕ → ℕ → List Place

@@ -1,13 +1,10 @@
 -- Chains as they lie in memory: heads and links.
-use Rattle.std.specs.Prelude.{ℕ, List, [], ◌∷◌, ◌+◌, ◌≡◌, ◌<◌, ◌≤◌, zero, suc, cond, nat_eq, nat_lt, length, map, slice_index_or}
+use Rattle.std.specs.Prelude.{ℕ, List, [], ◌∷◌, ◌≡◌, ◌<◌, ◌≤◌, zero, suc, cond, nat_lt, length, map, slice_index_or}
 use Rattle.std.specs.List.{sum_by}
+use Rattle.link_chain.specs.Indexes.{nowhere}
 use Rattle.link_chain.specs.declared.linked_lists.Head.{Head}
 use Rattle.link_chain.specs.declared.linked_lists.Link.{Link}
 use Rattle.link_chain.specs.Chains.{list_at, times}
-
--- the index that stands for no link; so there are at most so many links
-abbrev pub nowhere : ℕ
-nowhere = 4294967295
 
 -- the head at an index, and none past the end
 abbrev pub head_at : List Head → ℕ → Head

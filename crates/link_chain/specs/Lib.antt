@@ -1,3 +1,4 @@
+pub mod Indexes
 pub mod Chains
 pub mod HeadsAndLinks
 pub mod Buckets

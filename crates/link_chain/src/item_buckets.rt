@@ -1,14 +1,12 @@
 //! Numbers in buckets, where a number is moved from one bucket to another in a few writes.
 ghost use Rattle.std.specs.Prelude.{◌≡◌, ℕ, ◌<◌, ◌≤◌, [], length, vec_len, slice_set, slice_get, replicate, map, IfOk, IfSome, IfNone};
 ghost use Rattle.link_chain.specs.Buckets.{bucket_at, how_often, take_out, put_first};
-ghost use Rattle.link_chain.specs.FirstsAndPlaces.{nowhere, first_at, place_at, with_before, with_after, unlinked_firsts, unlinked_places, linked_firsts, linked_places, IsLeast};
+ghost use Rattle.link_chain.specs.Indexes.{nowhere};
+ghost use Rattle.link_chain.specs.FirstsAndPlaces.{first_at, place_at, with_before, with_after, unlinked_firsts, unlinked_places, linked_firsts, linked_places, IsLeast};
 
-use crate::Memory;
+use crate::{Memory, NOWHERE};
 use std::alloc::Global;
 use std::marker::Model;
-
-/// The index that stands for no item. It is past the end of all places.
-const NOWHERE: u32 = u32::MAX;
 
 /// Where an item stands: between which two, and in which bucket.
 #[derive(Clone, Copy, Drop)]
@@ -18,34 +16,16 @@ struct Place {
     bucket: u32,
 }
 
-fn first_of(firsts: &[u32], bucket: usize) -> u32
-    requires { bucket < length firsts.now }
-    ensures { result ≡ first_at firsts.now bucket }
-{
-    firsts[bucket]
-}
-
-fn place_of(places: &[Place], item: usize) -> Place
-    requires { item < length places.now }
-    ensures { result ≡ place_at places.now item }
-{
-    places[item]
-}
-
 /// Lets another item stand before one, if the one is an item.
 fn set_before(places: &mut Vec<Place>, at: u32, before: u32)
     ensures items { places.new.items ≡ with_before places.old.items at before }
     ensures len { vec_len places.new ≡ vec_len places.old }
 {
+    // `NOWHERE` is past the end.
     if (at as usize) >= places.len() {
         return;
     }
-    let place = places[at as usize];
-    places[at as usize] = Place {
-        before,
-        after: place.after,
-        bucket: place.bucket,
-    };
+    places[at as usize].before = before;
 }
 
 /// Lets another item stand after one, if the one is an item.
@@ -53,34 +33,15 @@ fn set_after(places: &mut Vec<Place>, at: u32, after: u32)
     ensures items { places.new.items ≡ with_after places.old.items at after }
     ensures len { vec_len places.new ≡ vec_len places.old }
 {
+    // `NOWHERE` is past the end.
     if (at as usize) >= places.len() {
         return;
     }
-    let place = places[at as usize];
-    places[at as usize] = Place {
-        before: place.before,
-        after,
-        bucket: place.bucket,
-    };
+    places[at as usize].after = after;
 }
 
-fn set_place(places: &mut Vec<Place>, item: usize, place: Place)
-    requires { item < vec_len places.old }
-    ensures items { places.new.items ≡ slice_set places.old.items item place }
-    ensures len { vec_len places.new ≡ vec_len places.old }
-{
-    places[item] = place;
-}
-
-fn set_first(firsts: &mut Vec<u32>, bucket: usize, item: u32)
-    requires { bucket < vec_len firsts.old }
-    ensures items { firsts.new.items ≡ slice_set firsts.old.items bucket item }
-    ensures len { vec_len firsts.new ≡ vec_len firsts.old }
-{
-    firsts[bucket] = item;
-}
-
-/// Takes an item out of its bucket: its two neighbours are written, and the bucket's first item if it was that.
+/// Takes an item out of its bucket: its two neighbours are written, and the bucket's first item if
+/// it was that.
 fn unlink(firsts: &mut Vec<u32>, places: &mut Vec<Place>, item: u32)
     requires item { item < length places.old.items }
     requires bucket { (place_at places.old.items item).bucket < length firsts.old.items }
@@ -89,15 +50,16 @@ fn unlink(firsts: &mut Vec<u32>, places: &mut Vec<Place>, item: u32)
     ensures firsts_len { vec_len firsts.new ≡ vec_len firsts.old }
     ensures places_len { vec_len places.new ≡ vec_len places.old }
 {
-    let place = place_of(places.as_slice(), item as usize);
+    let place = places[item as usize];
     set_after(places, place.before, place.after);
     set_before(places, place.after, place.before);
     if place.before == NOWHERE {
-        set_first(firsts, place.bucket as usize, place.after);
+        firsts[place.bucket as usize] = place.after;
     }
 }
 
-/// Puts an item that stands nowhere first in a bucket: the item, the one that was first and the bucket's first item are written.
+/// Puts an item that stands nowhere first in a bucket: the item, the one that was first and the
+/// bucket's first item are written.
 fn link(firsts: &mut Vec<u32>, places: &mut Vec<Place>, item: u32, bucket: u32)
     requires item { item < length places.old.items }
     requires bucket { bucket < length firsts.old.items }
@@ -106,18 +68,14 @@ fn link(firsts: &mut Vec<u32>, places: &mut Vec<Place>, item: u32, bucket: u32)
     ensures firsts_len { vec_len firsts.new ≡ vec_len firsts.old }
     ensures places_len { vec_len places.new ≡ vec_len places.old }
 {
-    let after = first_of(firsts.as_slice(), bucket as usize);
-    set_place(
-        places,
-        item as usize,
-        Place {
-            before: NOWHERE,
-            after,
-            bucket,
-        },
-    );
+    let after = firsts[bucket as usize];
+    places[item as usize] = Place {
+        before: NOWHERE,
+        after,
+        bucket,
+    };
     set_before(places, after, item);
-    set_first(firsts, bucket as usize, item);
+    firsts[bucket as usize] = item;
 }
 
 /// The first bucket from one on that is not empty, or how many there are.
@@ -175,9 +133,9 @@ pub struct Buckets {
 }
 
 impl Model for Buckets {
-    ghost use Rattle.std.specs.Prelude.{◌≤◌, length};
+    ghost use Rattle.std.specs.Prelude.{length};
     ghost use Rattle.link_chain.specs.Buckets.{BucketLists};
-    ghost use Rattle.link_chain.specs.FirstsAndPlaces.{nowhere, buckets_of, AreBuckets, IsLeast};
+    ghost use Rattle.link_chain.specs.FirstsAndPlaces.{buckets_of, AreKept};
 
     ghost Value = { BucketLists };
 
@@ -186,7 +144,7 @@ impl Model for Buckets {
       lists = buckets_of b.firsts.items b.places.items;
     } };
 
-    ghost invariant = { λ b. AreBuckets b.firsts.items b.places.items (buckets_of b.firsts.items b.places.items) × IsLeast b.firsts.items b.low × (length b.firsts.items ≤ nowhere) };
+    ghost invariant = { λ b. AreKept b.firsts.items b.places.items b.low };
 }
 
 fn gather(firsts: Vec<u32>, places: Vec<Place>) -> Buckets
@@ -267,8 +225,7 @@ impl Buckets {
         ensures once { (x : ℕ) → how_often x self.now.lists ≤ 1 }
     {
         if self.low < self.firsts.len() {
-            let item = first_of(self.firsts.as_slice(), self.low);
-            Some((item, self.low as u32))
+            Some((self.firsts[self.low], self.low as u32))
         } else {
             None
         }

@@ -10,5 +10,8 @@ pub use linked_lists::Chains;
 /// Want of memory: the one answer that no clause ties to a cause.
 pub type Memory = std::alloc::AllocError;
 
+/// The index that stands for no link and no item. It is past the end of them all.
+const NOWHERE: u32 = u32::MAX;
+
 #[cfg(test)]
 mod tests;

@@ -1,15 +1,12 @@
 //! Lists of items that are linked by index, and that grow at their ends.
 ghost use Rattle.std.specs.Prelude.{◌≡◌, ℕ, ◌+◌, ◌-◌, ◌^◌, ◌<◌, ◌≤◌, [], ◌∷◌, ◌++◌, length, vec_len, slice_set, drop, OnOk, OnErr, IfOk, IfSome, IsOk};
 ghost use Rattle.std.specs.Vec.{vec_capacity};
-ghost use Rattle.link_chain.specs.Chains.{list_at, link_count, first_link, from_link, walk_left, IsLink, IsLinkedOnce};
+ghost use Rattle.link_chain.specs.Chains.{list_at, link_count, put_last, first_link, from_link, walk_left, IsLink, IsLinkedOnce};
 ghost use Rattle.link_chain.specs.HeadsAndLinks.{head_at, link_at};
 
-use crate::Memory;
+use crate::{Memory, NOWHERE};
 use std::alloc::Global;
 use std::marker::Model;
-
-/// The index that stands for no link.
-const NOWHERE: u32 = u32::MAX;
 
 /// Where a list begins and ends.
 #[derive(Clone, Copy, Drop)]
@@ -45,8 +42,7 @@ fn end_with(heads: &mut Vec<Head>, head: usize, link: u32)
     ensures len { vec_len heads.new ≡ vec_len heads.old }
     ensures capacity { vec_capacity heads.new ≡ vec_capacity heads.old }
 {
-    let first = heads[head].first;
-    heads[head] = Head { first, last: link };
+    heads[head].last = link;
 }
 
 /// Lets a link follow another one.
@@ -56,22 +52,7 @@ fn lead_on(links: &mut Vec<Link>, at: usize, link: u32)
     ensures len { vec_len links.new ≡ vec_len links.old }
     ensures capacity { vec_capacity links.new ≡ vec_capacity links.old }
 {
-    let item = links[at].item;
-    links[at] = Link { item, next: link };
-}
-
-fn head_of(heads: &[Head], head: usize) -> Head
-    requires { head < length heads.now }
-    ensures { result ≡ head_at heads.now head }
-{
-    heads[head]
-}
-
-fn link_of(links: &[Link], link: usize) -> Link
-    requires { link < length links.now }
-    ensures { result ≡ link_at links.now link }
-{
-    links[link]
+    links[at].next = link;
 }
 
 /// Lists of items that grow at their ends. A head is the place of a list, counted from 0. Each item
@@ -151,7 +132,7 @@ impl Chains {
     pub fn append(&mut self, head: u32, item: u32) -> Result<(), Memory>
         requires head { head < length self.old.lists }
         requires few { link_count self.old.lists < 2 ^ 32 - 1 }
-        ensures lists { OnOk result (self.new.lists ≡ slice_set self.old.lists head (list_at self.old.lists head ++ (link_count self.old.lists, item) ∷ [])) }
+        ensures lists { OnOk result (self.new.lists ≡ put_last head item self.old.lists) }
         ensures head_count { length self.new.lists ≡ length self.old.lists }
         ensures link_count { OnOk result (link_count self.new.lists ≡ link_count self.old.lists + 1) }
         ensures err { OnErr result (self.new ≡ self.old) }
@@ -161,7 +142,7 @@ impl Chains {
         ensures spare_heads { self.new.spare_heads ≡ self.old.spare_heads }
     {
         self.links.reserve(1)?;
-        let last = head_of(self.heads.as_slice(), head as usize).last;
+        let last = self.heads[head as usize].last;
         let link = self.links.len() as u32;
         self.links.push_reserved(Link {
             item,
@@ -186,7 +167,7 @@ impl Chains {
         ensures walk { walk_left self.now.lists result ≡ list_at self.now.lists head }
         ensures once { IsLinkedOnce self.now.lists }
     {
-        let first = head_of(self.heads.as_slice(), head as usize).first;
+        let first = self.heads[head as usize].first;
         if first == NOWHERE { None } else { Some(first) }
     }
 
@@ -199,7 +180,7 @@ impl Chains {
         // A walk from there passes what a walk from the link passes after the link.
         ensures walk { walk_left self.now.lists result ≡ drop 1 (from_link link self.now.lists) }
     {
-        let next = link_of(self.links.as_slice(), link as usize).next;
+        let next = self.links[link as usize].next;
         if next == NOWHERE { None } else { Some(next) }
     }
 
@@ -208,7 +189,7 @@ impl Chains {
         requires link { IsLink self.now.lists link }
         ensures { from_link link self.now.lists ≡ (link, result) ∷ drop 1 (from_link link self.now.lists) }
     {
-        link_of(self.links.as_slice(), link as usize).item
+        self.links[link as usize].item
     }
 
     /// Makes room, so that so many heads and so many items may be added with no memory taken.

@@ -3,7 +3,8 @@ use Rattle.std.proofs.lemmas.List.{length_push}
 use Rattle.link_chain.specs.Chains.{link_count}
 use Rattle.link_chain.proofs.ChainLaws.{link_count-add_head}
 use Rattle.link_chain.specs.declared.linked_lists.Head.{Head}
-use Rattle.link_chain.specs.HeadsAndLinks.{nowhere, AreChains}
+use Rattle.link_chain.specs.Indexes.{nowhere}
+use Rattle.link_chain.specs.HeadsAndLinks.{AreChains}
 use Rattle.link_chain.proofs.ChainResults.{added_is}
 use Rattle.link_chain.proofs.linked_lists.Chains.add_head.Goals as goal
 

@@ -1,19 +1,13 @@
-use Rattle.std.proofs.Common.{◌∷◌, length, drop, sym, ap, ◌∙◌, subst, arith}
-use Rattle.link_chain.specs.Chains.{from_link}
-use Rattle.link_chain.specs.HeadsAndLinks.{link_at, AreChains}
-use Rattle.link_chain.proofs.ChainWalks.{there}
+use Rattle.std.proofs.Common.{ap, arith}
+use Rattle.link_chain.proofs.ChainResults.{link_in, item_is}
 use Rattle.link_chain.proofs.linked_lists.Chains.item.Goals as goal
 
-pub link_of-requires : goal.link_of-requires
-link_of-requires c =
+pub index-requires : goal.index-requires
+index-requires c =
     let s = c.self.inside in
-    let chains : AreChains s.heads.items s.links.items c.args.self.now.lists = subst (AreChains s.heads.items s.links.items) (ap (λ v. v.lists) c.self.view_is) c.self.invariant in
-    let t = there s.heads.items s.links.items c.args.self.now.lists c.args.link chains c.requires.link in
-    omega (arith, t.within, ap length c.as_slice.ensures.value)
+    omega (arith, s.links.ok.0, link_in s.heads.items s.links.items c.args.self.now.lists c.args.link (ap (λ v. v.lists) c.self.view_is) c.self.invariant c.requires.link)
 
 pub returns : goal.returns
 returns c =
     let s = c.self.inside in
-    let chains : AreChains s.heads.items s.links.items c.args.self.now.lists = subst (AreChains s.heads.items s.links.items) (ap (λ v. v.lists) c.self.view_is) c.self.invariant in
-    let t = there s.heads.items s.links.items c.args.self.now.lists c.args.link chains c.requires.link in
-    t.pair ∙ sym (ap (λ i. (c.args.link, i) ∷ drop 1 (from_link c.args.link c.args.self.now.lists)) (ap (λ h. h.item) c.link_of.ensures ∙ ap (λ ls. (link_at ls c.args.link).item) c.as_slice.ensures.value))
+    item_is s.heads.items s.links.items c.args.self.now.lists c.args.link c.index.result.now (ap (λ v. v.lists) c.self.view_is) c.self.invariant c.requires.link c.index.ensures
