@@ -4,3 +4,6 @@
 mod table;
 
 pub use table::{InternFault, NameTable};
+
+#[cfg(test)]
+mod tests;
