@@ -1,0 +1,4 @@
+pub mod Plain
+pub mod Scripts
+pub mod CommandWords
+pub mod Written

@@ -1,0 +1,12 @@
+//! The top call: from the words of a command and the bytes of its files to the text that is written.
+#![tactic(auto)]
+
+mod answer;
+mod degrees;
+mod lines;
+mod reading;
+mod rows;
+mod top;
+mod words;
+
+pub use top::{Status, Which, run};
