@@ -2,3 +2,4 @@ pub mod Plain
 pub mod Scripts
 pub mod CommandWords
 pub mod Written
+pub mod OneOutput

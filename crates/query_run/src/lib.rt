@@ -3,10 +3,12 @@
 
 mod answer;
 mod degrees;
+mod laws;
 mod lines;
 mod reading;
 mod rows;
 mod top;
 mod words;
 
+pub use laws::outputs_are_one;
 pub use top::{Status, Which, run};
