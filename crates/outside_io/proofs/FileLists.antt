@@ -1,5 +1,5 @@
 -- Lists of files, and a file that is read piece by piece.
-use Rattle.std.proofs.Common.{bytes_eq, inl, inr, true, false, ◌≡◌, ◌∙◌, ◌≤◌, ◌<◌, ◌+◌, ◌++◌, ◌∷◌, [], ℕ, List, Some, None, Option, length, take, drop, get_or, refl, sym, ap}
+use Rattle.std.proofs.Common.{bytes_eq, inl, inr, true, false, ◌≡◌, ◌∙◌, ◌≤◌, ◌<◌, ◌+◌, ◌++◌, [], ℕ, List, Some, None, Option, length, take, drop, get_or, refl, sym, ap}
 use Rattle.std.proofs.lemmas.Bool.{cases_Bool}
 use Rattle.std.proofs.lemmas.Slice.Eq.{bytes_eq-Decides}
 use Rattle.std.proofs.lemmas.List.{length-take-le, drop_more, get_or_read, append-nil, take-append-drop, drop-drop}

@@ -1,5 +1,5 @@
 -- How a file is read in pieces.
-use Rattle.std.proofs.Common.{◌≡◌, ◌∙◌, ◌+◌, ◌++◌, List, ℕ, Option, Some, None, drop, length, inl, ap, sym, length-append, append_assoc}
+use Rattle.std.proofs.Common.{◌≡◌, ◌∙◌, ◌+◌, ◌++◌, List, ℕ, Option, Some, None, length, inl, ap, sym, length-append, append_assoc}
 use Rattle.std.specs.Io.KnownBytes.{prepend_known}
 use Rattle.std.proofs.Math.Seq.{drop-append_seam}
 use Rattle.outside_io.specs.Outside.{StandsBehind, bytes_of}

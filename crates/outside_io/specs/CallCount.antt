@@ -1,5 +1,5 @@
 -- How the calls and the faults of an object in memory are counted.
-use Rattle.std.specs.Prelude.{ℕ, Bool, Contains, if◌then◌else◌}
+use Rattle.std.specs.Prelude.{Bool, Contains, if◌then◌else◌}
 use Rattle.outside_io.specs.declared.call_list.CallCount.{CallCount}
 use Rattle.outside_io.specs.Outside.{capped_sum}
 

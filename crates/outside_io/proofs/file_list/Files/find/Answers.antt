@@ -1,4 +1,4 @@
-use Rattle.std.proofs.Common.{◌∙◌, ap, sym, rules}
+use Rattle.std.proofs.Common.{◌∙◌, rules}
 use Rattle.outside_io.proofs.FileLists.{bytes_of-found, bytes_of-other}
 use Rattle.outside_io.proofs.file_list.Files.find.Goals as goal
 

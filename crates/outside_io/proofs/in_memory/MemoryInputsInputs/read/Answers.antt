@@ -1,6 +1,5 @@
-use Rattle.std.proofs.Common.{◌≡◌, ◌∙◌, ◌≤◌, ◌+◌, ◌++◌, take, drop, length, Some, ap, sym, arith, rules}
+use Rattle.std.proofs.Common.{◌≤◌, drop, length, Some, ap, rules}
 use Rattle.outside_io.proofs.FileLists.{rest_of-more, take-copied}
-use Rattle.outside_io.specs.MemoryFiles.{rest_of}
 use Rattle.outside_io.proofs.in_memory.MemoryInputsInputs.read.Goals as goal
 
 pub returns-clause-gives : goal.returns-clause-gives
