@@ -77,7 +77,7 @@ impl NameTable {
         &self.names[id as usize]
     }
 
-    /// Makes room for this many more names, so that none of them wants memory.
+    /// Makes room for this many more names, so that none of them wants memory when it is interned.
     pub fn reserve(&mut self, additional: u32) -> Result<(), Memory>
         ensures limit { self.new.limit ≡ self.old.limit }
         ensures names { self.new.names ≡ self.old.names }
@@ -90,8 +90,8 @@ impl NameTable {
 
     /// The number of a name, which is added at the end where it is new.
     ///
-    /// A name that is there is found without memory. A new one is `Full` exactly where the table has its limit of names, and wants no
-    /// memory while any name is spare.
+    /// A name that is there is found without memory. A new one is `Full` exactly where the table holds as many names as it may, and
+    /// wants no memory while there is room, as after `reserve`.
     pub fn intern(&mut self, name: Name) -> Result<u32, InternFault>
         ensures limit { self.new.limit ≡ self.old.limit }
         ensures place { IfOk result (λ id. place_of name self.new.names ≡ Some id) }

@@ -1,5 +1,5 @@
 -- Properties: what is read is a name without a `:`, a `:` and a value, and the other way round.
-use Rattle.std.proofs.Common.{◌≡◌, ◌<◌, ◌≤◌, ◌&&◌, ◌⊎◌, inl, inr, ◌==◌, ◌++◌, ℕ, ℤ, List, [], ◌∷◌, length, get_or, drop, Bool, true, false, Option, Some, None, option_map, refl, ap, sym, subst, ◌∙◌, arith, nat_lt, codes, append_assoc}
+use Rattle.std.proofs.Common.{◌≡◌, ◌<◌, ◌&&◌, ◌⊎◌, inl, inr, ◌++◌, ℕ, ℤ, List, ◌∷◌, length, get_or, drop, Bool, true, false, Option, Some, None, option_map, refl, ap, sym, subst, ◌∙◌, arith, nat_lt, codes, append_assoc}
 use Rattle.std.specs.Prelude.{if◌then◌else◌, IsTrue, nat_eq}
 use Rattle.std.specs.List.{position_or_len, starts_with}
 use Rattle.std.specs.Str.{bytes_eq}
@@ -12,7 +12,7 @@ use Rattle.graph_model.specs.declared.properties.Value.TheVariants.{Int, Flag, T
 use Rattle.graph_model.specs.PropertyField.{behind_key, flag_of, has_named_key, has_no_colon, is_colon, key_of, property_of, value_of_text, words_of, IsWritable, WritesProperty, WritesValue}
 use Rattle.graph_model.specs.Record.{flag_text, prop_text, value_text}
 use Rattle.graph_model.specs.TextForm.{is_name, is_text}
-use Rattle.graph_model.specs.WholeNumber.{whole_of, WritesWhole}
+use Rattle.graph_model.specs.WholeNumber.{whole_of}
 use Rattle.property_values.proofs.Marks.{after-mark, before-has-no-mark, before-mark, has-mark}
 use Rattle.property_values.proofs.Signed.{whole_of-written, WritesWhole-decimal, WritesWhole-from_read}
 

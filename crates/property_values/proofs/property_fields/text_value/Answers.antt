@@ -1,5 +1,5 @@
-use Rattle.std.proofs.Common.{◌<◌, ◌≤◌, length, rules}
-use Rattle.property_values.proofs.Texts.{not-long, words_of-long, words_of-short}
+use Rattle.std.proofs.Common.{◌≤◌, length, rules}
+use Rattle.property_values.proofs.Texts.{not-long, words_of-short}
 use Rattle.property_values.proofs.property_fields.text_value.Goals as goal
 
 pub returns-in-Ok-clause-value : goal.returns-in-Ok-clause-value
