@@ -2,7 +2,7 @@
 ghost use Rattle.std.specs.Prelude.{codes, ◌≡◌, ◌≢◌, ℕ, ℤ, pos, negsuc, List, [], ◌∷◌, ◌++◌, Some, None, true, false, map};
 ghost use Rattle.graph_model.specs.declared.queries.Cmp.TheVariants.{Gt, Ne, Eq};
 ghost use Rattle.graph_model.specs.declared.queries.Each.TheVariants.{Rolling, Expanding};
-ghost use Rattle.graph_model.specs.declared.queries.Direction.TheVariants.{Outward, Inward, Both};
+ghost use Rattle.graph_model.specs.declared.queries.Direction.TheVariants.{Outward, Both};
 ghost use Rattle.graph_model.specs.declared.events.Model.TheVariants.{Event as Instants, Persistent};
 ghost use Rattle.graph_model.specs.Answer.{Extent, Degrees, Happened, degree_row, edge_kind, history_rows, Spanned, Typed, Recorded, world_rows};
 ghost use Rattle.graph_model.specs.Record.{time_text};
@@ -13,7 +13,7 @@ ghost use Rattle.graph_model.specs.Journey.{IsReached, IsArrival};
 ghost use Rattle.graph_model.specs.declared.events.Model.{Model};
 ghost use Rattle.graph_model.specs.Neighbours.{neighbours};
 ghost use Rattle.graph_model.specs.Core.{is_core_set, IsInCore, IsCoreNumber};
-ghost use Rattle.graph_model.specs.declared.queries.Op.TheVariants.{Window, At, Before, After, Layers, ExcludeLayers, Subgraph, ExcludeNodes, EdgesWhere, NodesWhere, Valid, NodeTypes};
+ghost use Rattle.graph_model.specs.declared.queries.Op.TheVariants.{Window, At, After, Layers, ExcludeLayers, Subgraph, ExcludeNodes, EdgesWhere, NodesWhere, Valid, NodeTypes};
 ghost use Rattle.graph_model.specs.declared.events.Entity.TheVariants.{Node, Edge};
 ghost use Rattle.graph_model.specs.declared.properties.Value.TheVariants.{Int, Flag, Text};
 ghost use Rattle.world_laws.specs.Examples.{a, b, c, d, l, n, w, x, y, z, link, added, two_edges, added_again, added_in, deleted_in, ordered, typed, forgotten, added_with, twice, lasting_value, lasting, falling, seven_moments, extents, between, triangle, chain, mixed, layered, loop, base_of, arrived_late, type_alone, deleted_at_once, valued, falls_late, in_two_layers, nested, three_edges, path, ten_moments, sixty_four};
