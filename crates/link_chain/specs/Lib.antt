@@ -1,0 +1,4 @@
+pub mod Chains
+pub mod HeadsAndLinks
+pub mod Buckets
+pub mod FirstsAndPlaces

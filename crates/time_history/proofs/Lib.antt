@@ -1,0 +1,17 @@
+pub mod Digits
+pub mod Probes
+pub mod ByPlace
+pub mod Placing
+pub mod Keys
+pub mod Putting
+pub mod Segments
+pub mod Parts
+pub mod Clips
+pub mod Alive
+pub mod Final
+pub mod Present
+pub mod Last
+pub mod Names
+pub mod Props
+pub mod Values
+pub mod Next

@@ -1,0 +1,453 @@
+//! The history of one entity.
+ghost use Rattle.std.specs.Prelude.{◌≡◌, ℕ, ◌+◌, ◌-◌, ◌*◌, ◌^◌, ◌<◌, ◌≤◌, ◌≢◌, ◌≤ℤ◌, ◌<ℤ◌, ℤ, [], ◌∷◌, length, int_lt, true, false, IsTrue, IsFalse, OnOk, OnErr};
+ghost use Rattle.std.specs.List.{All};
+ghost use Rattle.std.specs.Option.{option_copied};
+ghost use Rattle.std.specs.Ordering.{int_eq};
+ghost use Rattle.std.specs.Int.{int_max};
+ghost use Rattle.time_column.specs.Stamp.{stamp_at, IsRising};
+ghost use Rattle.graph_model.specs.Searches.{digits};
+ghost use Rattle.time_history.specs.Kinds.{OfOneSort};
+ghost use Rattle.time_history.specs.Updates.{update_at, placed, UpdatesRise, TimesRise};
+ghost use Rattle.graph_model.specs.Interval.{Interval, is_inside, latest};
+ghost use Rattle.graph_model.specs.declared.events.Model.TheVariants.{Event as Instants, Persistent};
+ghost use Rattle.time_history.specs.Asked.{IsAliveAt, HappensAt, IsPresent, IsLastKind, IsValue, IsValueIn, IsNextUpdate, IsNextContact, is_final_at};
+ghost use Rattle.time_history.specs.Spans.{carries, IsSpan, IsCut, IsTaken, IsPart, IsAllowed, IsClipped};
+
+use crate::search::{Probe, first_after, inside, last_place};
+use crate::span::Span;
+use crate::updates::{Detail, KeyValues, Kind, Update};
+use graph_model::{Bounds, Model as Lasting, Value};
+use std::alloc::{AllocError, Global};
+use std::marker::Model;
+use std::sync::ledger::Ledger;
+use time_column::{Steps, TimeColumn};
+
+fn later_of(a: i64, b: i64) -> i64
+    ensures { result ≡ int_max a b }
+{
+    if a < b { b } else { a }
+}
+
+fn same_moment(a: i64, b: i64) -> bool
+    ensures { result ≡ int_eq a b }
+{
+    a == b
+}
+
+/// The updates of one entity, rising by time, then by order, then by arrival.
+#[derive(Drop)]
+pub struct History {
+    column: TimeColumn,
+    details: Vec<Detail>,
+}
+
+impl Model for History {
+    ghost use Rattle.std.specs.Prelude.{ℕ, List, ◌≡◌, ◌<◌, ◌^◌, length};
+    ghost use Rattle.std.specs.Vec.{vec_len};
+    ghost use Rattle.time_column.specs.Stamp.{IsRising};
+    ghost use Rattle.time_history.specs.declared.updates.Update.{Update};
+    ghost use Rattle.time_history.specs.Updates.{updates_of};
+
+    ghost Value = { List Update };
+
+    ghost view = { λ h. updates_of h.column.stamps h.details.items };
+
+    ghost invariant = { λ h. (length h.column.stamps ≡ vec_len h.details) × (vec_len h.details < 2 ^ 32) × IsRising h.column.stamps };
+}
+
+impl History {
+    pub fn new(alloc: Global) -> History
+        ensures { result ≡ [] }
+    {
+        History {
+            column: TimeColumn::new(alloc),
+            details: Vec::new(alloc),
+        }
+    }
+
+    pub fn len(&self) -> u32
+        ensures len { result ≡ length self.now }
+        ensures rising { UpdatesRise self.now }
+    {
+        self.details.len() as u32
+    }
+
+    /// All updates.
+    pub fn whole(&self) -> Span
+        ensures { result ≡ record { from = 0; to = length self.now; carried = false } }
+    {
+        Span {
+            from: 0,
+            to: self.len(),
+            carried: false,
+        }
+    }
+
+    pub fn kind_at(&self, i: u32) -> Kind
+        requires { i < length self.now }
+        ensures { result ≡ (update_at self.now i).kind }
+    {
+        self.details[i as usize].kind
+    }
+
+    pub fn values_at(&self, i: u32) -> &KeyValues
+        requires { i < length self.now }
+        ensures { result.now ≡ (update_at self.now i).props }
+    {
+        &self.details[i as usize].props
+    }
+
+    pub fn time_at<L: Ledger>(&self, i: u32, steps: &mut Steps<L>) -> i64
+        requires { i < length self.now }
+        ensures value { result ≡ (update_at self.now i).time }
+        ensures cost { steps.new ≡ steps.old + 1 }
+    {
+        self.column.time_at(i as usize, steps)
+    }
+
+    pub fn order_at<L: Ledger>(&self, i: u32, steps: &mut Steps<L>) -> u32
+        requires { i < length self.now }
+        ensures value { result ≡ (update_at self.now i).order }
+        ensures cost { steps.new ≡ steps.old + 1 }
+    {
+        self.column.order_at(i as usize, steps)
+    }
+
+    /// Places an update after all whose time and order are not greater.
+    pub fn put<L: Ledger>(&mut self, update: Update, steps: &mut Steps<L>) -> Result<(), AllocError>
+        requires last { All (λ u. u.arrival < update.arrival) self.old }
+        requires room { length self.old < 2 ^ 32 - 1 }
+        requires kinds { OfOneSort (update ∷ self.old) }
+        ensures ok { OnOk result (self.new ≡ placed update self.old) }
+        ensures err { OnErr result (self.new ≡ self.old) }
+        ensures cost { steps.new ≤ steps.old + (digits (length self.old) + 1) }
+    {
+        let Update {
+            time,
+            order,
+            arrival,
+            kind,
+            props,
+        } = update;
+        let at = last_place(&self.column, Probe::NotAfter(time, order), steps);
+        self.column.reserve()?;
+        self.details.insert(at, Detail { kind, props })?;
+        let _ = self.column.insert(at, time, order, arrival);
+        Ok(())
+    }
+
+    /// Whether what comes before a place is carried over it.
+    fn carries_over(&self, model: Lasting, from: u32) -> bool
+        requires { from ≤ length self.now }
+        ensures { result ≡ carries model self.now from }
+    {
+        match model {
+            Lasting::Event => false,
+            Lasting::Persistent => from > 0 && !self.kind_at(from - 1).is_deletion(),
+        }
+    }
+
+    /// The span of a window, from a span.
+    pub fn clip<L: Ledger>(
+        &self,
+        span: Span,
+        bounds: Bounds,
+        cut: Bounds,
+        model: Lasting,
+        steps: &mut Steps<L>,
+    ) -> Span
+        requires span { IsSpan self.now span }
+        requires taken { IsTaken model bounds self.now span }
+        requires part { IsPart bounds cut }
+        requires allowed { IsAllowed model self.now }
+        ensures span { IsSpan self.now result }
+        ensures taken { IsTaken model cut self.now result }
+        ensures clipped { IsClipped model bounds cut self.now span result }
+        ensures cost { steps.new ≤ steps.old + 2 * (digits (span.to - span.from) + 1) }
+    {
+        if cut.is_empty() {
+            return Span {
+                from: span.from,
+                to: span.from,
+                carried: false,
+            };
+        }
+        if span.is_bare() {
+            return span;
+        }
+        let (from, to) = inside(
+            &self.column,
+            span.from as usize,
+            span.to as usize,
+            cut,
+            steps,
+        );
+        let carried = self.carries_over(model, from as u32);
+        Span {
+            from: from as u32,
+            to: to as u32,
+            carried,
+        }
+    }
+
+    /// The first place of a span whose time is not earlier than a moment, or its end. Times never fall.
+    fn first_from<L: Ledger>(&self, span: Span, time: i64, steps: &mut Steps<L>) -> u32
+        requires span { IsSpan self.now span }
+        ensures from { span.from ≤ result }
+        ensures to { result ≤ span.to }
+        ensures before { (k : ℕ) → span.from ≤ k → k < result → (update_at self.now k).time <ℤ time }
+        ensures after { (k : ℕ) → result ≤ k → k < span.to → time ≤ℤ (update_at self.now k).time }
+        ensures rise { TimesRise self.now }
+        ensures cost { steps.new ≤ steps.old + digits (span.to - span.from) }
+    {
+        let probe = Probe::Earlier(time);
+        first_after(
+            &self.column,
+            span.from as usize,
+            span.to as usize,
+            probe,
+            steps,
+        ) as u32
+    }
+
+    /// Whether a span has an update at a moment.
+    fn happens_at<L: Ledger>(&self, span: Span, m: i64, steps: &mut Steps<L>) -> bool
+        requires span { IsSpan self.now span }
+        ensures happens { HappensAt self.now span m result }
+        ensures cost { steps.new ≤ steps.old + (digits (span.to - span.from) + 1) }
+    {
+        let at = self.first_from(span, m, steps);
+        at < span.to && same_moment(self.time_at(at, steps), m)
+    }
+
+    /// Whether the edge of a span lasts over a moment inside the bounds.
+    fn lasts_at<L: Ledger>(&self, span: Span, m: i64, steps: &mut Steps<L>) -> bool
+        requires span { IsSpan self.now span }
+        requires below { m <ℤ latest }
+        ensures alive { (bounds : Interval) → is_inside bounds m ≡ true → IsAliveAt Persistent bounds self.now span m result }
+        ensures cost { steps.new ≤ steps.old + digits (span.to - span.from) }
+    {
+        let at = self.first_from(span, m + 1, steps);
+        if at > span.from {
+            !self.kind_at(at - 1).is_deletion()
+        } else {
+            span.carried
+        }
+    }
+
+    /// Whether the edge of a span is alive at a moment.
+    pub fn alive_at<L: Ledger>(
+        &self,
+        span: Span,
+        bounds: Bounds,
+        model: Lasting,
+        m: i64,
+        steps: &mut Steps<L>,
+    ) -> bool
+        requires span { IsSpan self.now span }
+        requires taken { IsTaken model bounds self.now span }
+        requires allowed { IsAllowed model self.now }
+        ensures alive { IsAliveAt model bounds self.now span m result }
+        ensures cost { steps.new ≤ steps.old + (digits (span.to - span.from) + 1) }
+    {
+        match model {
+            Lasting::Event => self.happens_at(span, m, steps),
+            Lasting::Persistent => bounds.holds(m) && self.lasts_at(span, m, steps),
+        }
+    }
+
+    /// Whether the edge of a span is alive at some moment, where it lasts until it is deleted.
+    fn ever_alive<L: Ledger>(&self, span: Span, bounds: Bounds, steps: &mut Steps<L>) -> bool
+        requires span { IsSpan self.now span }
+        requires taken { IsTaken Persistent bounds self.now span }
+        ensures present { IsPresent Persistent bounds self.now span result }
+    {
+        let _column = &self.column;
+        if span.from == span.to {
+            return span.carried;
+        }
+        if span.carried && self.is_later(span.from, bounds.lo(), steps) {
+            return true;
+        }
+        for i in span.from..span.to {
+            if self.is_final(i, span.to, steps) {
+                return true;
+            }
+        }
+        false
+    }
+
+    /// Whether an update is later than a moment.
+    fn is_later<L: Ledger>(&self, i: u32, m: i64, steps: &mut Steps<L>) -> bool
+        requires { i < length self.now }
+        ensures { result ≡ int_lt m (update_at self.now i).time }
+    {
+        m < self.time_at(i, steps)
+    }
+
+    /// Whether an update adds an edge, and the next before `to` is later.
+    fn is_final<L: Ledger>(&self, i: u32, to: u32, steps: &mut Steps<L>) -> bool
+        requires place { i < to }
+        requires end { to ≤ length self.now }
+        ensures { result ≡ is_final_at self.now i to }
+    {
+        if self.kind_at(i).is_deletion() {
+            return false;
+        }
+        if i + 1 == to {
+            return true;
+        }
+        let time = self.time_at(i, steps);
+        self.is_later(i + 1, time, steps)
+    }
+
+    /// Whether the edge of a span is alive at some moment.
+    pub fn present<L: Ledger>(
+        &self,
+        span: Span,
+        bounds: Bounds,
+        model: Lasting,
+        steps: &mut Steps<L>,
+    ) -> bool
+        requires span { IsSpan self.now span }
+        requires taken { IsTaken model bounds self.now span }
+        requires allowed { IsAllowed model self.now }
+        ensures present { IsPresent model bounds self.now span result }
+        ensures free { model ≡ Instants → steps.new ≡ steps.old }
+    {
+        match model {
+            Lasting::Event => span.from < span.to,
+            Lasting::Persistent => self.ever_alive(span, bounds, steps),
+        }
+    }
+
+    /// The kind of the last event of a span.
+    pub fn last_kind(&self, span: Span) -> Option<Kind>
+        requires span { IsSpan self.now span }
+        ensures { IsLastKind self.now span result }
+    {
+        if span.from < span.to {
+            Some(self.kind_at(span.to - 1))
+        } else if span.carried {
+            Some(self.kind_at(span.from - 1))
+        } else {
+            None
+        }
+    }
+
+    /// The last value of a key among the updates from one place up to another that no deletion follows.
+    fn value_in(&self, start: u32, to: u32, key: u32) -> Option<&Value>
+        requires order { start ≤ to }
+        requires end { to ≤ length self.now }
+        ensures { IsValueIn self.now start to key (option_copied result) }
+    {
+        let mut i = to;
+        while i > start {
+            i -= 1;
+            if self.kind_at(i).is_deletion() {
+                return None;
+            }
+            if let Some(value) = self.values_at(i).find(key) {
+                return Some(value);
+            }
+        }
+        None
+    }
+
+    /// The value of a key in a span.
+    pub fn value(&self, span: Span, key: u32) -> Option<&Value>
+        requires span { IsSpan self.now span }
+        ensures { IsValue self.now span key (option_copied result) }
+    {
+        let start = if span.carried { 0 } else { span.from };
+        self.value_in(start, span.to, key)
+    }
+
+    /// The time of the first update of a span that is later than a moment.
+    fn next_update<L: Ledger>(&self, span: Span, after: i64, steps: &mut Steps<L>) -> Option<i64>
+        requires span { IsSpan self.now span }
+        requires below { after <ℤ latest }
+        ensures { IsNextUpdate self.now span after result }
+    {
+        let at = self.first_from(span, after + 1, steps);
+        if at < span.to {
+            Some(self.time_at(at, steps))
+        } else {
+            None
+        }
+    }
+
+    /// The least contact of an edge later than a moment, where edges are instants.
+    fn next_instant<L: Ledger>(
+        &self,
+        span: Span,
+        bounds: Bounds,
+        after: i64,
+        steps: &mut Steps<L>,
+    ) -> Option<i64>
+        requires span { IsSpan self.now span }
+        requires taken { IsTaken Instants bounds self.now span }
+        requires allowed { IsAllowed Instants self.now }
+        requires below { after <ℤ latest }
+        ensures { IsNextContact Instants bounds self.now span after result }
+    {
+        self.next_update(span, after, steps)
+    }
+
+    /// The least contact of an edge later than a moment, where edges last until they are deleted.
+    fn next_lasting<L: Ledger>(
+        &self,
+        span: Span,
+        bounds: Bounds,
+        after: i64,
+        steps: &mut Steps<L>,
+    ) -> Option<i64>
+        requires span { IsSpan self.now span }
+        requires cut { IsCut Persistent bounds self.now span }
+        requires below { after <ℤ latest }
+        requires high { bounds.hi ≤ℤ latest }
+        ensures { IsNextContact Persistent bounds self.now span after result }
+    {
+        let first = later_of(after + 1, bounds.lo());
+        if !bounds.holds(first) {
+            return None;
+        }
+        if self.lasts_at(span, first, steps) {
+            return Some(first);
+        }
+        let at = self.first_from(span, first + 1, steps);
+        for i in at..span.to {
+            if self.is_final(i, span.to, steps) {
+                return Some(self.time_at(i, steps));
+            }
+        }
+        None
+    }
+
+    /// The least contact of an edge later than a moment, if there is one.
+    pub fn next_contact<L: Ledger>(
+        &self,
+        span: Span,
+        bounds: Bounds,
+        model: Lasting,
+        after: i64,
+        steps: &mut Steps<L>,
+    ) -> Option<i64>
+        requires span { IsSpan self.now span }
+        requires taken { IsTaken model bounds self.now span }
+        requires allowed { IsAllowed model self.now }
+        ensures { IsNextContact model bounds self.now span after result }
+    {
+        if span.is_bare() {
+            return None;
+        }
+        let hi = bounds.hi();
+        if after >= hi {
+            return None;
+        }
+        match model {
+            Lasting::Event => self.next_instant(span, bounds, after, steps),
+            Lasting::Persistent => self.next_lasting(span, bounds, after, steps),
+        }
+    }
+}

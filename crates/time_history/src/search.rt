@@ -1,0 +1,103 @@
+//! A binary search for the end of the stamps that pass a test.
+ghost use Rattle.std.specs.Prelude.{◌≡◌, ℕ, ◌+◌, ◌-◌, ◌*◌, ◌<◌, ◌≤◌, ◌<ℤ◌, ◌≤ℤ◌, length, true, false};
+ghost use Rattle.time_column.specs.Stamp.{stamp_at, IsRising};
+ghost use Rattle.graph_model.specs.Searches.{digits};
+ghost use Rattle.time_history.specs.Probe.{passes};
+
+use graph_model::Bounds;
+use std::sync::ledger::Ledger;
+use time_column::{Steps, TimeColumn};
+
+/// A test of a stamp. If one passes, so do those before it.
+#[derive(Clone, Copy, Drop)]
+pub enum Probe {
+    /// The time is earlier than this.
+    Earlier(i64),
+    /// The time and the order are not greater than these.
+    NotAfter(i64, u32),
+}
+
+/// Whether the stamp at a place passes.
+pub fn test<L: Ledger>(column: &TimeColumn, i: usize, probe: Probe, steps: &mut Steps<L>) -> bool
+    requires { i < length column.now.stamps }
+    ensures value { result ≡ passes probe (stamp_at column.now.stamps i) }
+    ensures cost { steps.new ≡ steps.old + 1 }
+{
+    match probe {
+        Probe::Earlier(time) => column.earlier_than(i, time, steps),
+        Probe::NotAfter(time, order) => column.not_after(i, time, order, steps),
+    }
+}
+
+/// The first place from `from` up to `to` whose stamp does not pass, or `to`.
+pub fn first_after<L: Ledger>(
+    column: &TimeColumn,
+    from: usize,
+    to: usize,
+    probe: Probe,
+    steps: &mut Steps<L>,
+) -> usize
+    requires order { from ≤ to }
+    requires within { to ≤ length column.now.stamps }
+    requires rising { IsRising column.now.stamps }
+    ensures from { from ≤ result }
+    ensures to { result ≤ to }
+    ensures before { (k : ℕ) → from ≤ k → k < result → passes probe (stamp_at column.now.stamps k) ≡ true }
+    ensures after { (k : ℕ) → result ≤ k → k < to → passes probe (stamp_at column.now.stamps k) ≡ false }
+    ensures cost { steps.new ≤ steps.old + digits (to - from) }
+{
+    let mut low = from;
+    let mut high = to;
+    while low < high {
+        let mid = low + (high - low) / 2;
+        if test(column, mid, probe, steps) {
+            low = mid + 1;
+        } else {
+            high = mid;
+        }
+    }
+    low
+}
+
+/// The first place whose stamp does not pass, or the length. The last stamp is tried first.
+pub fn last_place<L: Ledger>(column: &TimeColumn, probe: Probe, steps: &mut Steps<L>) -> usize
+    ensures within { result ≤ length column.now.stamps }
+    ensures before { (k : ℕ) → k < result → passes probe (stamp_at column.now.stamps k) ≡ true }
+    ensures after { (k : ℕ) → result ≤ k → k < length column.now.stamps → passes probe (stamp_at column.now.stamps k) ≡ false }
+    ensures cost { steps.new ≤ steps.old + (digits (length column.now.stamps) + 1) }
+{
+    let len = column.len();
+    if len == 0 {
+        return 0;
+    }
+    if test(column, len - 1, probe, steps) {
+        return len;
+    }
+    first_after(column, 0, len - 1, probe, steps)
+}
+
+/// The places from `from` up to `to` whose times are inside bounds: the first of them, and the one after
+/// the last.
+pub fn inside<L: Ledger>(
+    column: &TimeColumn,
+    from: usize,
+    to: usize,
+    bounds: Bounds,
+    steps: &mut Steps<L>,
+) -> (usize, usize)
+    requires order { from ≤ to }
+    requires within { to ≤ length column.now.stamps }
+    requires rising { IsRising column.now.stamps }
+    ensures from { from ≤ result.0 }
+    ensures order { result.0 ≤ result.1 }
+    ensures to { result.1 ≤ to }
+    ensures before { (k : ℕ) → from ≤ k → k < result.0 → (stamp_at column.now.stamps k).time <ℤ bounds.lo }
+    ensures begun { (k : ℕ) → result.0 ≤ k → k < to → bounds.lo ≤ℤ (stamp_at column.now.stamps k).time }
+    ensures unended { (k : ℕ) → result.0 ≤ k → k < result.1 → (stamp_at column.now.stamps k).time <ℤ bounds.hi }
+    ensures after { (k : ℕ) → result.1 ≤ k → k < to → bounds.hi ≤ℤ (stamp_at column.now.stamps k).time }
+    ensures cost { steps.new ≤ steps.old + 2 * (digits (to - from) + 1) }
+{
+    let first = first_after(column, from, to, Probe::Earlier(bounds.lo()), steps);
+    let end = first_after(column, first, to, Probe::Earlier(bounds.hi()), steps);
+    (first, end)
+}
