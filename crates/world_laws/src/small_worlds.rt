@@ -13,10 +13,10 @@ ghost use Rattle.graph_model.specs.Journey.{IsReached, IsArrival};
 ghost use Rattle.graph_model.specs.declared.events.Model.{Model};
 ghost use Rattle.graph_model.specs.Neighbours.{neighbours};
 ghost use Rattle.graph_model.specs.Core.{is_core_set, IsInCore, IsCoreNumber};
-ghost use Rattle.graph_model.specs.declared.queries.Op.TheVariants.{Window, At, After, Layers, ExcludeLayers, Subgraph, ExcludeNodes, EdgesWhere, NodesWhere, Valid, NodeTypes};
+ghost use Rattle.graph_model.specs.declared.queries.Op.TheVariants.{Window, At, Before, After, Layers, ExcludeLayers, Subgraph, ExcludeNodes, EdgesWhere, NodesWhere, Valid, NodeTypes};
 ghost use Rattle.graph_model.specs.declared.events.Entity.TheVariants.{Node, Edge};
 ghost use Rattle.graph_model.specs.declared.properties.Value.TheVariants.{Int, Flag, Text};
-ghost use Rattle.world_laws.specs.Examples.{a, b, c, d, l, n, w, x, y, z, link, added, two_edges, added_again, added_in, deleted_in, ordered, typed, forgotten, added_with, twice, lasting_value, lasting, falling, seven_moments, extents, between, triangle, chain, mixed, layered, loop, base_of, arrived_late, type_alone, deleted_at_once, valued, falls_late, in_two_layers, nested, three_edges, path, ten_moments, sixty_four};
+ghost use Rattle.world_laws.specs.Examples.{a, b, c, d, l, n, w, x, y, z, link, added, deleted, two_edges, added_again, added_in, deleted_in, ordered, typed, forgotten, added_with, twice, lasting_value, lasting, falling, seven_moments, extents, between, triangle, chain, mixed, layered, loop, base_of, arrived_late, type_alone, deleted_at_once, valued, falls_late, in_two_layers, nested, three_edges, path, ten_moments, sixty_four};
 ghost use Rattle.graph_model.specs.World.{World, IsLawful, events_of, event_cmp};
 ghost use Rattle.graph_model.specs.Rising.{put_after};
 ghost use Rattle.graph_model.specs.Stack.{apply};
@@ -110,6 +110,7 @@ pub fn digits_of_numbers()
 pub fn value_filter_and_window_do_not_change_places()
     ensures filter_first { edges (apply (EdgesWhere w Gt (Int (pos 5)) ∷ Window (pos 0) (pos 3) ∷ []) falling) ≡ [] }
     ensures window_first { edges (apply (Window (pos 0) (pos 3) ∷ EdgesWhere w Gt (Int (pos 5)) ∷ []) falling) ≡ link a b ∷ [] }
+    ensures unknown_key { edges (apply (EdgesWhere z Ne (Int (pos 5)) ∷ []) falling) ≡ [] }
     ensures differ { apply (EdgesWhere w Gt (Int (pos 5)) ∷ Window (pos 0) (pos 3) ∷ []) falling ≢ apply (Window (pos 0) (pos 3) ∷ EdgesWhere w Gt (Int (pos 5)) ∷ []) falling }
 {}
 
@@ -178,9 +179,10 @@ pub fn type_alone_makes_no_node_present()
     ensures nodes { nodes type_alone ≡ [] }
 {}
 
-/// An edge that is deleted at the moment of its addition is never alive, and its ends are not present by it.
+/// An edge that is deleted at the moment of its addition is never alive, and its ends are not present by it; nor are those of an edge that is deleted alone.
 pub fn deletion_at_the_moment_of_its_edge()
-    ensures { map (degree_row deleted_at_once) (nodes deleted_at_once) ≡ Degrees c 0 1 1 ∷ Degrees d 1 0 1 ∷ [] }
+    ensures alone { nodes (base_of Persistent (deleted 1 a b ∷ [])) ≡ [] }
+    ensures at_once { map (degree_row deleted_at_once) (nodes deleted_at_once) ≡ Degrees c 0 1 1 ∷ Degrees d 1 0 1 ∷ [] }
 {}
 
 /// A node is carried as an update, an edge as an addition, each with its values.
@@ -218,7 +220,7 @@ pub fn three_edges_have_their_degrees()
     ensures { map (degree_row three_edges) (nodes three_edges) ≡ Degrees a 0 2 2 ∷ Degrees b 1 1 2 ∷ Degrees c 2 0 2 ∷ [] }
 {}
 
-/// Walks along two edges: distances, labels, components, and two views.
+/// Walks along two edges: distances, labels, components, and three views.
 pub fn walks_along_two_edges()
     ensures itself { IsDistance path Outward a a 0 }
     ensures next { IsDistance path Outward a b 1 }
@@ -230,6 +232,7 @@ pub fn walks_along_two_edges()
     ensures into { IsInTo path c a }
     ensures subgraph { nodes (apply (Subgraph (a ∷ b ∷ []) ∷ []) path) ≡ a ∷ b ∷ [] }
     ensures after { edges (apply (After (pos 1) ∷ []) path) ≡ link b c ∷ [] }
+    ensures before { edges (apply (Before (pos 2) ∷ []) path) ≡ link a b ∷ [] }
     ensures history { history_rows (λ x. codes "node") 0 (events_of path (Node a)) ≡ [] }
 {}
 
