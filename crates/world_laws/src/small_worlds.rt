@@ -161,9 +161,10 @@ pub fn neighbours_are_counted_once()
     ensures looped { map (degree_row loop) (nodes loop) ≡ Degrees a 1 1 1 ∷ Degrees b 0 0 0 ∷ [] }
 {}
 
-/// A journey takes no two edges at one moment.
+/// A journey takes no two edges at one moment; its first may be at the start.
 pub fn journeys_rise_strictly()
     ensures first { (model : Model) → IsArrival (chain model) (a ∷ []) (pos 0) b (pos 1) }
+    ensures at_start { (model : Model) → IsArrival (chain model) (a ∷ []) (pos 1) b (pos 1) }
     ensures instants { (m : ℤ) → IsReached (chain Instants) (a ∷ []) (pos 0) c m → ⊥ }
     ensures persistent { IsArrival (chain Persistent) (a ∷ []) (pos 0) c (pos 2) }
 {}
