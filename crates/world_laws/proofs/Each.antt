@@ -1,17 +1,14 @@
 -- The windows of a world, one after another.
-use Rattle.std.proofs.Common.{◌≡◌, ℕ, ℤ, pos, negsuc, zero, suc, ◌+◌, ◌*◌, ◌<◌, ◌≤◌, ◌+ℤ◌, ◌*ℤ◌, ◌≤ℤ◌, ◌<ℤ◌, ◌^◌, List, [], ◌∷◌, Option, Some, None, option_map, map, length, refl, sym, ◌∙◌, ap, arith}
-use Rattle.std.specs.Prelude.{slice_get, IsTrue}
+use Rattle.std.proofs.Common.{◌≡◌, ℕ, ℤ, zero, suc, ◌+◌, ◌<◌, List, [], ◌∷◌, Option, Some, None, option_map, map, length, ◌∙◌, ap, arith}
+use Rattle.std.specs.Prelude.{slice_get}
 use Rattle.std.specs.List.{range_with_len, AllByRecursion, Contains}
-use Rattle.std.proofs.lemmas.Int.{ints}
 use Rattle.std.proofs.lemmas.Option.{slice_get-map}
 use Rattle.std.proofs.lemmas.List.FromFn.{length-map-range_with_len}
 use Rattle.graph_model.specs.declared.events.Event.{Event}
 use Rattle.graph_model.specs.declared.queries.Each.{Each}
-use Rattle.graph_model.specs.declared.queries.Each.TheVariants.{Rolling, Expanding}
-use Rattle.graph_model.specs.Interval.{earliest, latest}
 use Rattle.graph_model.specs.World.{World, IsLawful}
 use Rattle.graph_model.specs.Window.{window}
-use Rattle.graph_model.specs.Windows.{windows, windows_from, window_start, window_end, window_count, last_time, bounded, step_of}
+use Rattle.graph_model.specs.Windows.{windows, windows_from, window_start, window_end, window_count, last_time, bounded}
 use Rattle.world_laws.proofs.Lawful.{IsLawful-window}
 use Rattle.world_laws.proofs.Rows.{each_contained}
 

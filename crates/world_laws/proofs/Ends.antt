@@ -1,6 +1,7 @@
 -- Where windows begin and end.
-use Rattle.std.proofs.Common.{◌≡◌, ℕ, ℤ, pos, negsuc, ◌+◌, ◌*◌, ◌/◌, ◌<◌, ◌≤◌, ◌+ℤ◌, ◌-ℤ◌, ◌*ℤ◌, ◌≤ℤ◌, ◌<ℤ◌, ◌^◌, true, false, Some, refl, arith}
-use Rattle.std.specs.Prelude.{IsTrue}
+use Rattle.std.proofs.Common.{◌≡◌, ℕ, ℤ, pos, negsuc, ◌+◌, ◌*◌, ◌≤◌, ◌+ℤ◌, ◌*ℤ◌, ◌≤ℤ◌, ◌<ℤ◌, ◌^◌, true, Some, refl, arith}
+use Rattle.std.specs.Prelude.{neg_ℤ}
+use Rattle.std.proofs.Math.Nat.{mul-le-mul_right}
 use Rattle.std.proofs.lemmas.Int.{ints}
 use Rattle.std.proofs.lemmas.Bool.{and_parts}
 use Rattle.graph_model.specs.declared.queries.Op.{Op}
@@ -10,8 +11,8 @@ use Rattle.graph_model.specs.declared.queries.Each.TheVariants.{Rolling, Expandi
 use Rattle.graph_model.specs.Interval.{earliest, latest}
 use Rattle.graph_model.specs.Range.{is_step, each_in_range}
 use Rattle.graph_model.specs.Searches.{kind_of, IsWindow}
-use Rattle.graph_model.specs.Windows.{window_end, window_count, step_of}
-use Rattle.world_laws.specs.Ends.{window_ends, IsBound}
+use Rattle.graph_model.specs.Windows.{window_start, window_end, step_of}
+use Rattle.world_laws.specs.Ends.{window_ends, IsNumbered}
 use Rattle.world_laws.proofs.Times.{le_from_test}
 use Rattle.world_laws.proofs.Rolling.{counted_windows}
 
@@ -42,11 +43,25 @@ one_step_more k (pos s) h = omega (arith, ints)
 one_step_more k (negsuc s) h = absurd (omega (arith, ints))
 
 -- the end of a window is no more than a step past the last time
-pub end_fits : (each : Each) (first last : ℤ) (k : ℕ) → IsTrue (each_in_range each) → IsBound first → last <ℤ latest → first ≤ℤ last → k < window_count each first last → window_end each first k <ℤ pos (2 ^ 63)
-end_fits each first last k h bound below order b =
-    let s = each_step each h in
+pub end_fits : (each : Each) (first last : ℤ) (k : ℕ) → IsNumbered each first last k → window_end each first k <ℤ pos (2 ^ 63)
+end_fits each first last k h =
+    let s = each_step each h.in_range in
     let low = s.0 in
     let high = s.1 in
-    let reached = (counted_windows each first last k low order).0 b in
+    let below = h.ends in
+    let reached = (counted_windows each first last k low h.order).0 h.counted in
     let more = one_step_more k (step_of each) low in
     omega (arith, ints)
+
+product_bound : (k : ℕ) (s : ℤ) → pos 1 ≤ℤ s → pos 1 ≤ℤ (pos (k + 1) *ℤ s)
+product_bound k (pos s) h = let m : 1 * s ≤ (k + 1) * s = mul-le-mul_right s (omega arith) in omega (arith, ints)
+product_bound k (negsuc s) h = absurd (omega (arith, ints))
+
+-- the beginning of a window is no more than a width before the first end
+pub start_fits : (each : Each) (first last : ℤ) (k : ℕ) → IsNumbered each first last k → neg_ℤ (pos (2 ^ 63)) ≤ℤ window_start each first k
+start_fits (Rolling width step) first last k h =
+    let low = h.begins in
+    let wide = (step_bounds width (and_parts (is_step width) (is_step step) h.in_range).0).1 in
+    let far = product_bound k step (each_step (Rolling width step) h.in_range).0 in
+    omega (arith, ints)
+start_fits (Expanding step) first last k h = let low = h.begins in omega (arith, ints)

@@ -11,6 +11,7 @@ use Rattle.graph_model.specs.Props.{overwrite}
 use Rattle.graph_model.specs.Entity.{entity_of, is_deletion, update_of, props_of}
 use Rattle.graph_model.specs.Compare.{live}
 use Rattle.graph_model.specs.Window.{carried, last_props}
+use Rattle.world_laws.specs.CarriedEvent.{carried_event}
 use Rattle.world_laws.proofs.Carried.{each_live, subject-update_of, props-update_of, deletes-update_of}
 
 -- with no deletion all events are live
@@ -65,18 +66,18 @@ pub live_last : (xs : List Event) (x : Event) → is_deletion x ≡ false → li
 live_last xs x h = live-append xs (x ∷ []) ∙ cond-false (list_any is_deletion (x ∷ [])) _ _ (ap (λ t. t || false) h)
 
 -- what is carried for events of one entity is one event of it
-pub carried_one : (e : Entity) (lo : ℤ) (xs : List Event) (x : Event) → AllByRecursion (λ y. entity_of y ≡ e) (xs ++ x ∷ []) → carried lo (xs ++ x ∷ []) ≡ record { time = lo; order = 0; what = update_of e (last_props (xs ++ x ∷ [])) } ∷ []
-carried_one e lo [] x h = ap (λ b. record { time = lo; order = 0; what = update_of b (last_props (x ∷ [])) } ∷ []) h.0
-carried_one e lo (y ∷ xs) x h = ap (λ b. record { time = lo; order = 0; what = update_of b (last_props (y ∷ (xs ++ x ∷ []))) } ∷ []) h.0
+pub carried_one : (e : Entity) (lo : ℤ) (xs : List Event) (x : Event) → AllByRecursion (λ y. entity_of y ≡ e) (xs ++ x ∷ []) → carried lo (xs ++ x ∷ []) ≡ carried_event e lo (xs ++ x ∷ []) ∷ []
+carried_one e lo [] x h = ap (λ b. carried_event b lo (x ∷ []) ∷ []) h.0
+carried_one e lo (y ∷ xs) x h = ap (λ b. carried_event b lo (y ∷ (xs ++ x ∷ [])) ∷ []) h.0
 
 -- after an event that is no deletion, one event is carried, with the last values of the live events
 pub carried_after : (e : Entity) (lo : ℤ) (xs : List Event) (x : Event) → AllByRecursion (λ y. entity_of y ≡ e) (xs ++ x ∷ []) → is_deletion x ≡ false
-    → carried lo (live (xs ++ x ∷ [])) ≡ record { time = lo; order = 0; what = update_of e (last_props (live (xs ++ x ∷ []))) } ∷ []
+    → carried lo (live (xs ++ x ∷ [])) ≡ carried_event e lo (live (xs ++ x ∷ [])) ∷ []
 carried_after e lo xs x h k =
     let still = live_last xs x k in
     ap (carried lo) still
     ∙ (carried_one e lo (live xs) x (subst (AllByRecursion (λ y. entity_of y ≡ e)) still (each_live (λ y. entity_of y ≡ e) (xs ++ x ∷ []) h))
-    ∙ ap (λ ys. record { time = lo; order = 0; what = update_of e (last_props ys) } ∷ []) (sym still))
+    ∙ ap (λ ys. carried_event e lo ys ∷ []) (sym still))
 
 -- what stands after the last deletion is live
 pub live_after : (xs : List Event) (x : Event) (ys : List Event) → is_deletion x ≡ true → list_any is_deletion ys ≡ false → live (xs ++ x ∷ ys) ≡ ys

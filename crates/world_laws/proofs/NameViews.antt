@@ -1,5 +1,5 @@
 -- Views that look at names and types alone change places with windows and with one another.
-use Rattle.std.proofs.Common.{◌≡◌, ℕ, ℤ, Bool, List, sym, ◌∙◌, refl}
+use Rattle.std.proofs.Common.{◌≡◌, ℕ, ℤ, Bool, List, sym, ◌∙◌}
 use Rattle.graph_model.specs.declared.events.Entity.{Entity}
 use Rattle.graph_model.specs.declared.queries.Op.{Op}
 use Rattle.graph_model.specs.declared.queries.Op.TheVariants.{Window, At, Before, After, Layers, ExcludeLayers, Subgraph, ExcludeNodes, EdgesWhere, NodesWhere, Valid, NodeTypes}

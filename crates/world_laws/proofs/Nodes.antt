@@ -1,5 +1,5 @@
 -- Which nodes are present, and which are neighbours.
-use Rattle.std.proofs.Common.{◌≡◌, ℕ, ℤ, Bool, true, false, ◌&&◌, ◌||◌, List, [], ◌∷◌, cond, inl, inr, ◌⊎◌, refl, sym, ◌∙◌, ap, subst}
+use Rattle.std.proofs.Common.{◌≡◌, ℕ, Bool, true, false, ◌&&◌, ◌||◌, List, [], ◌∷◌, cond, inl, inr, ◌⊎◌, refl, sym, ◌∙◌, ap, subst}
 use Rattle.std.specs.Prelude.{IsTrue, ◌↔◌, ◌≢◌}
 use Rattle.std.specs.List.{filter, list_any}
 use Rattle.std.proofs.lemmas.Bool.{cases_Bool, or_left, or_right, or_cases, and_parts, and_from, true≢false}
@@ -18,8 +18,9 @@ use Rattle.graph_model.specs.Names.{name_cmp, same_name}
 use Rattle.graph_model.specs.Rising.{Rises}
 use Rattle.graph_model.specs.Entity.{is_about, is_addition, entities, same_edge}
 use Rattle.graph_model.specs.World.{World, IsLawful, events_of}
-use Rattle.graph_model.specs.Presence.{lives_at, node_present, edge_present, is_present_at, IsContact, nodes, edges}
+use Rattle.graph_model.specs.Presence.{lives_at, node_present, edge_present, is_present_at, nodes, edges}
 use Rattle.graph_model.specs.Neighbours.{is_link, leads, neighbours}
+use Rattle.world_laws.specs.Contacts.{HasContact, IsEnd}
 use Rattle.world_laws.proofs.Filters.{any_weaker}
 use Rattle.world_laws.proofs.Order.{same_name-exact, same_name-refl, same_edge-exact}
 use Rattle.world_laws.proofs.Listed.{about_none}
@@ -38,7 +39,7 @@ kept_some {X} p (x ∷ xs) h e = cases (p x) (kept_some p xs) h e
     cases false f h e = f h e
 
 abbrev EndsOnContact : World → List ℕ → Type 0
-EndsOnContact w node = (edge : EdgeName) × ((edge.src ≡ node) ⊎ (edge.dst ≡ node)) × ((m : ℤ) × IsContact w edge m)
+EndsOnContact w node = (edge : EdgeName) × IsEnd node edge × HasContact w edge
 
 end_from_test : (w : World) (node : List ℕ) (e : Entity) → is_present_at w node e ≡ true → EndsOnContact w node
 end_from_test w node (Node name) h = absurd (true≢false (sym h))
@@ -46,13 +47,13 @@ end_from_test w node (Edge edge) h =
     let k = and_parts (same_name edge.src node || same_name edge.dst node) (edge_present w edge) h in
     (edge, ends edge k.0, contact_from_present w edge k.1)
   where
-    ends : (edge : EdgeName) → (same_name edge.src node || same_name edge.dst node) ≡ true → (edge.src ≡ node) ⊎ (edge.dst ≡ node)
+    ends : (edge : EdgeName) → (same_name edge.src node || same_name edge.dst node) ≡ true → IsEnd node edge
     ends edge m = elim (or_cases (same_name edge.src node) (same_name edge.dst node) m) [
       | inl e ↦ inl (same_name-exact edge.src node e)
       | inr e ↦ inr (same_name-exact edge.dst node e)
     ]
 
-end_test : (edge : EdgeName) (node : List ℕ) → (edge.src ≡ node) ⊎ (edge.dst ≡ node) → (same_name edge.src node || same_name edge.dst node) ≡ true
+end_test : (edge : EdgeName) (node : List ℕ) → IsEnd node edge → (same_name edge.src node || same_name edge.dst node) ≡ true
 end_test edge node (inl e) = or_left (same_name edge.src node) (same_name edge.dst node) (subst (λ z. same_name edge.src z ≡ true) e (same_name-refl edge.src))
 end_test edge node (inr e) = or_right (same_name edge.src node) (same_name edge.dst node) (subst (λ z. same_name edge.dst z ≡ true) e (same_name-refl edge.dst))
 

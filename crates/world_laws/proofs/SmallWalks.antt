@@ -1,14 +1,13 @@
 -- Walks in small worlds.
-use Rattle.std.proofs.Common.{◌≡◌, ℕ, ◌≤◌, Bool, true, false, ◌&&◌, ◌||◌, List, [], ◌∷◌, length, inl, inr, refl, sym, ◌∙◌, subst, arith}
-use Rattle.std.specs.Prelude.{◌≢◌}
-use Rattle.std.specs.List.{list_any, AllByRecursion}
+use Rattle.std.proofs.Common.{◌≡◌, ℕ, ◌≤◌, true, false, ◌&&◌, ◌||◌, List, [], ◌∷◌, length, inl, inr, refl, sym, ◌∙◌, subst, arith}
+use Rattle.std.specs.List.{AllByRecursion}
 use Rattle.std.specs.Ordering.{is_gt}
 use Rattle.std.proofs.lemmas.Bool.{or_cases, and_parts, true≢false}
 use Rattle.graph_model.specs.declared.queries.Direction.{Direction}
-use Rattle.graph_model.specs.declared.queries.Direction.TheVariants.{Outward, Inward, Both}
+use Rattle.graph_model.specs.declared.queries.Direction.TheVariants.{Outward, Both}
 use Rattle.graph_model.specs.Names.{name_cmp, same_name}
 use Rattle.graph_model.specs.World.{World}
-use Rattle.graph_model.specs.Presence.{node_present, nodes}
+use Rattle.graph_model.specs.Presence.{nodes}
 use Rattle.graph_model.specs.Neighbours.{leads}
 use Rattle.graph_model.specs.Walk.{Leads, Walk, Reaches, IsDistance, IsLabel, IsOutOf, IsInTo}
 use Rattle.world_laws.specs.Examples.{a, b, c, path, loop}

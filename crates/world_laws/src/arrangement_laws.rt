@@ -1,17 +1,17 @@
 //! Laws of the order of events and of arranged lists. The functions do nothing: their contracts are the laws.
-ghost use Rattle.graph_model.specs.Entity.{entity_of, entity_cmp, props_of, is_at};
-ghost use Rattle.graph_model.specs.Interval.{Interval, is_inside};
-ghost use Rattle.graph_model.specs.Props.{KeysRise};
+ghost use Rattle.graph_model.specs.Entity.{entity_of, entity_cmp, is_about, about};
+ghost use Rattle.graph_model.specs.Interval.{Interval};
 ghost use Rattle.graph_model.specs.Rising.{put_after, Rises, IsInOrder};
-ghost use Rattle.graph_model.specs.World.{World, IsLawful, type_cmp, put_type, event_cmp, arrange, events_of, allows, all_typed, base};
+ghost use Rattle.graph_model.specs.World.{World, IsLawful, type_cmp, put_type, event_cmp, arrange, events_of, base};
 ghost use Rattle.graph_model.specs.declared.events.Entity.{Entity};
 ghost use Rattle.graph_model.specs.declared.events.Event.{Event};
 ghost use Rattle.graph_model.specs.declared.events.Model.{Model};
+ghost use Rattle.world_laws.specs.Accepted.{ArriveAlike, AreAccepted};
 ghost use Rattle.std.specs.Cmp.{IsTotalOrder};
-ghost use Rattle.std.specs.List.{filter, list_all, AllByRecursion};
+ghost use Rattle.std.specs.List.{filter};
 ghost use Rattle.std.specs.List.Sorted.{IsPermutation};
 ghost use Rattle.std.specs.Ordering.{is_gt, int_cmp, nat_cmp, is_eq};
-ghost use Rattle.std.specs.Prelude.{int_le, ◌≡◌, ◌≢◌, ℕ, ℤ, List, [], ◌∷◌, ◌++◌, false, IsTrue, ◌≤ℤ◌};
+ghost use Rattle.std.specs.Prelude.{◌≡◌, ◌≢◌, ℕ, ℤ, List, [], ◌∷◌, ◌++◌, false, ◌≤ℤ◌, if◌then◌else◌};
 ghost use Rattle.std.specs.declared.cmp.Ordering.TheVariants.{Equal};
 
 /// The order of events is total and transitive. It looks at the time first, then at the entity, and then at the order; an event of order 0 is not greater than another of its entity and time.
@@ -49,9 +49,10 @@ pub fn late_event_goes_after_its_equals()
     ensures { (xs : List Event) (x : Event) → arrange (xs ++ x ∷ []) ≡ put_after event_cmp x (arrange xs) }
 {}
 
-/// What arrives is arranged alike, where each entity has the same events at each moment and of each order, in the same succession.
+/// What arrives is arranged alike, and makes the same base world, where each entity has the same events at each moment and of each order, in the same succession.
 pub fn arrival_counts_within_a_moment_alone()
-    ensures { (xs ys : List Event) → ((k : Entity × ℤ × ℕ) → filter (is_at k) xs ≡ filter (is_at k) ys) → arrange xs ≡ arrange ys }
+    ensures base { (model : Model) (bounds : Interval) (types : List (List ℕ × List ℕ)) (xs ys : List Event) → ArriveAlike xs ys → base model bounds types xs ≡ base model bounds types ys }
+    ensures list { (xs ys : List Event) → ArriveAlike xs ys → arrange xs ≡ arrange ys }
 {}
 
 /// A lawful world is fixed by its model, its bounds, its types and the events of each entity; its list by the events of each entity alone.
@@ -62,7 +63,12 @@ pub fn world_is_fixed_by_its_entities()
 
 /// The base world of events that were accepted is lawful, and a lawful world is the base world of its own events.
 pub fn base_worlds_are_lawful()
-    ensures lawful { (model : Model) (bounds : Interval) (types : List (List ℕ × List ℕ)) (xs : List Event) → IsTrue (int_le bounds.lo bounds.hi) → IsTrue (list_all (λ x. is_inside bounds x.time) xs) → IsTrue (list_all (allows model) xs) → AllByRecursion (λ x. KeysRise (props_of x)) xs → IsTrue (all_typed xs) → Rises type_cmp types → IsLawful (base model bounds types xs) }
+    ensures lawful { (model : Model) (bounds : Interval) (types : List (List ℕ × List ℕ)) (xs : List Event) → AreAccepted model bounds types xs → IsLawful (base model bounds types xs) }
     ensures types { (t : List ℕ × List ℕ) (types : List (List ℕ × List ℕ)) → Rises type_cmp types → Rises type_cmp (put_type t types) }
     ensures itself { (w : World) → IsLawful w → base w.model w.bounds w.types w.events ≡ w }
+{}
+
+/// An event that arrives goes into the history of its entity, after each that is not greater, and changes no other history.
+pub fn late_event_goes_into_its_history()
+    ensures { (e : Entity) (xs : List Event) (x : Event) → about e (arrange (xs ++ x ∷ [])) ≡ (if is_about e x then put_after event_cmp x (about e (arrange xs)) else about e (arrange xs)) }
 {}

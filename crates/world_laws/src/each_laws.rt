@@ -1,6 +1,5 @@
 //! Laws of the windows that roll or expand over a world. The functions do nothing: their contracts are the laws.
 ghost use Rattle.graph_model.specs.Interval.{earliest, latest};
-ghost use Rattle.graph_model.specs.Range.{each_in_range};
 ghost use Rattle.graph_model.specs.Window.{window};
 ghost use Rattle.graph_model.specs.Windows.{step_of, window_count, windows, window_start, window_end, last_time, bounded};
 ghost use Rattle.graph_model.specs.World.{World, IsLawful};
@@ -8,8 +7,8 @@ ghost use Rattle.graph_model.specs.declared.events.Event.{Event};
 ghost use Rattle.graph_model.specs.declared.queries.Each.{Each};
 ghost use Rattle.graph_model.specs.declared.queries.Each.TheVariants.{Rolling, Expanding};
 ghost use Rattle.std.specs.List.{Contains};
-ghost use Rattle.std.specs.Prelude.{◌≡◌, ◌↔◌, ℕ, ℤ, List, [], ◌∷◌, IsTrue, ◌<◌, ◌≤ℤ◌, ◌+ℤ◌, ◌*ℤ◌, pos, length, slice_get, Some, Option, ◌^◌, ◌-ℤ◌, ◌+◌, neg_ℤ, ◌<ℤ◌};
-ghost use Rattle.world_laws.specs.Ends.{IsBound};
+ghost use Rattle.std.specs.Prelude.{◌≡◌, ◌↔◌, ℕ, ℤ, List, [], ◌∷◌, ◌<◌, ◌≤ℤ◌, ◌+ℤ◌, ◌*ℤ◌, pos, length, slice_get, Some, Option, ◌^◌, ◌-ℤ◌, ◌+◌, neg_ℤ, ◌<ℤ◌};
+ghost use Rattle.world_laws.specs.Ends.{IsBound, IsNumbered};
 
 /// There is a window for each `k` at which the first time and `k` steps are not past the last time.
 pub fn windows_are_counted()
@@ -37,6 +36,6 @@ pub fn ends_of_windows_are_bounds()
     ensures kept { (t : ℤ) → IsBound t → bounded t ≡ t }
     ensures early { (t : ℤ) → t ≤ℤ earliest → bounded t ≡ earliest }
     ensures late { (t : ℤ) → latest ≤ℤ t → bounded t ≡ latest }
-    ensures begins { (each : Each) (first last : ℤ) (k : ℕ) → IsTrue (each_in_range each) → IsBound first → last <ℤ latest → first ≤ℤ last → k < window_count each first last → neg_ℤ (pos (2 ^ 63)) ≤ℤ window_start each first k }
-    ensures ends { (each : Each) (first last : ℤ) (k : ℕ) → IsTrue (each_in_range each) → IsBound first → last <ℤ latest → first ≤ℤ last → k < window_count each first last → window_end each first k <ℤ pos (2 ^ 63) }
+    ensures begins { (each : Each) (first last : ℤ) (k : ℕ) → IsNumbered each first last k → neg_ℤ (pos (2 ^ 63)) ≤ℤ window_start each first k }
+    ensures ends { (each : Each) (first last : ℤ) (k : ℕ) → IsNumbered each first last k → window_end each first k <ℤ pos (2 ^ 63) }
 {}

@@ -2,7 +2,7 @@
 ghost use Rattle.graph_model.specs.Entity.{edge_cmp, same_edge, is_addition};
 ghost use Rattle.graph_model.specs.Names.{name_cmp, same_name};
 ghost use Rattle.graph_model.specs.Neighbours.{neighbours};
-ghost use Rattle.graph_model.specs.Presence.{edge_present, node_present, edges, nodes, IsContact};
+ghost use Rattle.graph_model.specs.Presence.{edge_present, node_present, edges, nodes};
 ghost use Rattle.graph_model.specs.Rising.{Rises};
 ghost use Rattle.graph_model.specs.Updates.{updates, named_nodes};
 ghost use Rattle.graph_model.specs.World.{World, IsLawful, named, events_of};
@@ -12,12 +12,13 @@ ghost use Rattle.graph_model.specs.declared.events.Model.TheVariants.{Event as I
 ghost use Rattle.graph_model.specs.declared.queries.Direction.{Direction};
 ghost use Rattle.graph_model.specs.declared.queries.Direction.TheVariants.{Outward, Inward, Both};
 ghost use Rattle.std.specs.List.{list_any};
-ghost use Rattle.std.specs.Prelude.{◌||◌, ◌≡◌, ◌≢◌, ◌↔◌, ℕ, ℤ, List, [], IsTrue, ◌<◌, ◌⊎◌};
+ghost use Rattle.std.specs.Prelude.{◌||◌, ◌≡◌, ◌≢◌, ◌↔◌, ℕ, List, [], IsTrue, ◌<◌, ◌⊎◌};
+ghost use Rattle.world_laws.specs.Contacts.{HasContact, IsEnd};
 ghost use Rattle.world_laws.specs.LastAddition.{HasLastAddition};
 
 /// An edge of a lawful world is present exactly where it is alive at some moment.
 pub fn present_edges_have_contacts()
-    ensures { (w : World) (edge : EdgeName) → IsLawful w → IsTrue (edge_present w edge) ↔ ((m : ℤ) × IsContact w edge m) }
+    ensures { (w : World) (edge : EdgeName) → IsLawful w → IsTrue (edge_present w edge) ↔ HasContact w edge }
 {}
 
 /// In the persistent model an edge is present exactly where some addition of it is followed by none of its events at the same time.
@@ -27,7 +28,7 @@ pub fn lasting_edges_are_present_by_a_last_addition()
 
 /// A node of a lawful world is present exactly where it has an event of its own, or is an end of an edge that has a contact.
 pub fn nodes_are_present_by_events_and_contacts()
-    ensures { (w : World) (node : List ℕ) → IsLawful w → IsTrue (node_present w node) ↔ ((events_of w (Node node) ≢ []) ⊎ ((edge : EdgeName) × ((edge.src ≡ node) ⊎ (edge.dst ≡ node)) × ((m : ℤ) × IsContact w edge m))) }
+    ensures { (w : World) (node : List ℕ) → IsLawful w → IsTrue (node_present w node) ↔ ((events_of w (Node node) ≢ []) ⊎ ((edge : EdgeName) × IsEnd node edge × HasContact w edge)) }
 {}
 
 /// The lists of nodes and edges of a world rise, and have exactly the present ones.

@@ -2,7 +2,7 @@
 ghost use Rattle.std.specs.Prelude.{codes, ◌≡◌, ◌≢◌, ℕ, ℤ, pos, negsuc, List, [], ◌∷◌, ◌++◌, Some, None, true, false, map};
 ghost use Rattle.graph_model.specs.declared.queries.Cmp.TheVariants.{Gt, Ne, Eq};
 ghost use Rattle.graph_model.specs.declared.queries.Each.TheVariants.{Rolling, Expanding};
-ghost use Rattle.graph_model.specs.declared.queries.Direction.TheVariants.{Outward, Inward, Both};
+ghost use Rattle.graph_model.specs.declared.queries.Direction.TheVariants.{Outward, Both};
 ghost use Rattle.graph_model.specs.declared.events.Model.TheVariants.{Event as Instants, Persistent};
 ghost use Rattle.graph_model.specs.Answer.{Extent, Degrees, Happened, degree_row, edge_kind, history_rows, Spanned, Typed, Recorded, world_rows};
 ghost use Rattle.graph_model.specs.Record.{time_text};
@@ -16,7 +16,7 @@ ghost use Rattle.graph_model.specs.Core.{is_core_set, IsInCore, IsCoreNumber};
 ghost use Rattle.graph_model.specs.declared.queries.Op.TheVariants.{Window, At, Before, After, Layers, ExcludeLayers, Subgraph, ExcludeNodes, EdgesWhere, NodesWhere, Valid, NodeTypes};
 ghost use Rattle.graph_model.specs.declared.events.Entity.TheVariants.{Node, Edge};
 ghost use Rattle.graph_model.specs.declared.properties.Value.TheVariants.{Int, Flag, Text};
-ghost use Rattle.world_laws.specs.Examples.{a, b, c, d, l, n, w, x, y, z, link, added, two_edges, added_again, added_in, deleted_in, ordered, typed, forgotten, added_with, twice, lasting_value, lasting, falling, seven_moments, extents, between, triangle, chain, mixed, layered, loop, base_of, arrived_late, type_alone, deleted_at_once, valued, falls_late, in_two_layers, nested, three_edges, path, ten_moments, sixty_four};
+ghost use Rattle.world_laws.specs.Examples.{a, b, c, d, l, n, w, x, y, z, link, added, deleted, two_edges, added_again, added_in, deleted_in, ordered, typed, forgotten, added_with, twice, lasting_value, lasting, falling, seven_moments, extents, between, triangle, chain, mixed, layered, loop, base_of, arrived_late, type_alone, deleted_at_once, valued, falls_late, in_two_layers, nested, three_edges, path, ten_moments, sixty_four};
 ghost use Rattle.graph_model.specs.World.{World, IsLawful, events_of, event_cmp};
 ghost use Rattle.graph_model.specs.Rising.{put_after};
 ghost use Rattle.graph_model.specs.Stack.{apply};
@@ -110,6 +110,7 @@ pub fn digits_of_numbers()
 pub fn value_filter_and_window_do_not_change_places()
     ensures filter_first { edges (apply (EdgesWhere w Gt (Int (pos 5)) ∷ Window (pos 0) (pos 3) ∷ []) falling) ≡ [] }
     ensures window_first { edges (apply (Window (pos 0) (pos 3) ∷ EdgesWhere w Gt (Int (pos 5)) ∷ []) falling) ≡ link a b ∷ [] }
+    ensures unknown_key { edges (apply (EdgesWhere z Ne (Int (pos 5)) ∷ []) falling) ≡ [] }
     ensures differ { apply (EdgesWhere w Gt (Int (pos 5)) ∷ Window (pos 0) (pos 3) ∷ []) falling ≢ apply (Window (pos 0) (pos 3) ∷ EdgesWhere w Gt (Int (pos 5)) ∷ []) falling }
 {}
 
@@ -160,9 +161,10 @@ pub fn neighbours_are_counted_once()
     ensures looped { map (degree_row loop) (nodes loop) ≡ Degrees a 1 1 1 ∷ Degrees b 0 0 0 ∷ [] }
 {}
 
-/// A journey takes no two edges at one moment.
+/// A journey takes no two edges at one moment; its first may be at the start.
 pub fn journeys_rise_strictly()
     ensures first { (model : Model) → IsArrival (chain model) (a ∷ []) (pos 0) b (pos 1) }
+    ensures at_start { (model : Model) → IsArrival (chain model) (a ∷ []) (pos 1) b (pos 1) }
     ensures instants { (m : ℤ) → IsReached (chain Instants) (a ∷ []) (pos 0) c m → ⊥ }
     ensures persistent { IsArrival (chain Persistent) (a ∷ []) (pos 0) c (pos 2) }
 {}
@@ -178,9 +180,10 @@ pub fn type_alone_makes_no_node_present()
     ensures nodes { nodes type_alone ≡ [] }
 {}
 
-/// An edge that is deleted at the moment of its addition is never alive, and its ends are not present by it.
+/// An edge that is deleted at the moment of its addition is never alive, and its ends are not present by it; nor are those of an edge that is deleted alone.
 pub fn deletion_at_the_moment_of_its_edge()
-    ensures { map (degree_row deleted_at_once) (nodes deleted_at_once) ≡ Degrees c 0 1 1 ∷ Degrees d 1 0 1 ∷ [] }
+    ensures alone { nodes (base_of Persistent (deleted 1 a b ∷ [])) ≡ [] }
+    ensures at_once { map (degree_row deleted_at_once) (nodes deleted_at_once) ≡ Degrees c 0 1 1 ∷ Degrees d 1 0 1 ∷ [] }
 {}
 
 /// A node is carried as an update, an edge as an addition, each with its values.
@@ -218,7 +221,7 @@ pub fn three_edges_have_their_degrees()
     ensures { map (degree_row three_edges) (nodes three_edges) ≡ Degrees a 0 2 2 ∷ Degrees b 1 1 2 ∷ Degrees c 2 0 2 ∷ [] }
 {}
 
-/// Walks along two edges: distances, labels, components, and two views.
+/// Walks along two edges: distances, labels, components, and three views.
 pub fn walks_along_two_edges()
     ensures itself { IsDistance path Outward a a 0 }
     ensures next { IsDistance path Outward a b 1 }
@@ -230,6 +233,7 @@ pub fn walks_along_two_edges()
     ensures into { IsInTo path c a }
     ensures subgraph { nodes (apply (Subgraph (a ∷ b ∷ []) ∷ []) path) ≡ a ∷ b ∷ [] }
     ensures after { edges (apply (After (pos 1) ∷ []) path) ≡ link b c ∷ [] }
+    ensures before { edges (apply (Before (pos 2) ∷ []) path) ≡ link a b ∷ [] }
     ensures history { history_rows (λ x. codes "node") 0 (events_of path (Node a)) ≡ [] }
 {}
 

@@ -53,6 +53,7 @@ pub fn views_are_lawful()
     ensures lawful { (w : World) (op : Op) → IsLawful w → IsLawful (view w op) }
     ensures no_more { (w : World) (op : Op) → length (view w op).events ≤ length w.events }
     ensures stacks { (ops : List Op) (w : World) → IsLawful w → IsLawful (apply ops w) }
+    ensures stacks_no_more { (ops : List Op) (w : World) → length (apply ops w).events ≤ length w.events }
 {}
 
 /// Views between two filters by content are one window and one test of the entity.

@@ -1,6 +1,6 @@
 //! Laws of windows and of what they carry. The functions do nothing: their contracts are the laws.
 ghost use Rattle.graph_model.specs.Compare.{live, last_value};
-ghost use Rattle.graph_model.specs.Entity.{entity_of, props_of, is_deletion, update_of};
+ghost use Rattle.graph_model.specs.Entity.{entity_of, props_of, is_deletion};
 ghost use Rattle.graph_model.specs.Interval.{Interval, cut, is_empty};
 ghost use Rattle.graph_model.specs.Props.{KeysRise, prop_value};
 ghost use Rattle.graph_model.specs.Spell.{spell, IsWindowOf};
@@ -9,6 +9,7 @@ ghost use Rattle.graph_model.specs.World.{World, IsLawful, events_of};
 ghost use Rattle.graph_model.specs.declared.events.Entity.{Entity};
 ghost use Rattle.graph_model.specs.declared.events.Event.{Event};
 ghost use Rattle.graph_model.specs.declared.events.Model.TheVariants.{Event as Instants, Persistent};
+ghost use Rattle.world_laws.specs.CarriedEvent.{carried_event};
 ghost use Rattle.std.specs.Int.{int_max, int_min};
 ghost use Rattle.std.specs.List.{list_any, AllByRecursion};
 ghost use Rattle.std.specs.Prelude.{◌≡◌, ℕ, ℤ, List, [], ◌∷◌, ◌++◌, Bool, true, false, IsTrue, take, length, slice_range, ◌+◌, IsFalse};
@@ -38,7 +39,7 @@ pub fn live_events_stand_after_the_last_deletion()
 pub fn carried_after_an_event_that_is_no_deletion()
     ensures none { (lo : ℤ) → carried lo (live []) ≡ [] }
     ensures deleted { (lo : ℤ) (xs : List Event) (x : Event) → IsTrue (is_deletion x) → carried lo (live (xs ++ x ∷ [])) ≡ [] }
-    ensures carried { (e : Entity) (lo : ℤ) (xs : List Event) (x : Event) → AllByRecursion (λ y. entity_of y ≡ e) (xs ++ x ∷ []) → IsFalse (is_deletion x) → carried lo (live (xs ++ x ∷ [])) ≡ record { time = lo; order = 0; what = update_of e (last_props (live (xs ++ x ∷ []))) } ∷ [] }
+    ensures carried { (e : Entity) (lo : ℤ) (xs : List Event) (x : Event) → AllByRecursion (λ y. entity_of y ≡ e) (xs ++ x ∷ []) → IsFalse (is_deletion x) → carried lo (live (xs ++ x ∷ [])) ≡ carried_event e lo (live (xs ++ x ∷ [])) ∷ [] }
 {}
 
 /// For each key, a carried event has the last value that the live events set.
@@ -54,5 +55,5 @@ pub fn windows_are_parts_of_histories()
 
 /// A span that is carried after an event that is no deletion spells one update of the entity at the beginning, of order 0 and with the last properties that are live, and then its part of the history.
 pub fn carried_span_spells_one_event_first()
-    ensures { (e : Entity) (before : List Event) (x : Event) (after : List Event) (to : ℕ) (lo : ℤ) → AllByRecursion (λ y. entity_of y ≡ e) (before ++ x ∷ []) → IsFalse (is_deletion x) → spell (before ++ x ∷ after) (length before + 1) to true lo ≡ record { time = lo; order = 0; what = update_of e (last_props (live (before ++ x ∷ []))) } ∷ slice_range (before ++ x ∷ after) (length before + 1) to }
+    ensures { (e : Entity) (before : List Event) (x : Event) (after : List Event) (to : ℕ) (lo : ℤ) → AllByRecursion (λ y. entity_of y ≡ e) (before ++ x ∷ []) → IsFalse (is_deletion x) → spell (before ++ x ∷ after) (length before + 1) to true lo ≡ carried_event e lo (live (before ++ x ∷ [])) ∷ slice_range (before ++ x ∷ after) (length before + 1) to }
 {}
