@@ -89,8 +89,8 @@ edges-any bounds types xs plain link =
     ∙ any_entities (λ e. option_passes present_link (edge_part e)) g.events
     ∙ any_arranged (λ x. option_passes present_link (edge_part (entity_of x))) xs
     ∙ both_true (list_any (λ x. option_passes present_link (edge_part (entity_of x))) xs) (list_any (λ x. option_passes link (edge_part (entity_of x))) xs)
-        (any_weaker (λ x. option_passes present_link (edge_part (entity_of x))) (λ x. option_passes link (edge_part (entity_of x))) (λ x. forget (entity_of x)) xs)
-        found
+    (any_weaker (λ x. option_passes present_link (edge_part (entity_of x))) (λ x. option_passes link (edge_part (entity_of x))) (λ x. forget (entity_of x)) xs)
+    found
   where
     g : World
     g = graph bounds types xs
@@ -200,6 +200,7 @@ present-ends bounds types xs node x (Edge m) is added any named edge =
         single : (t : Bool) → (t || false) ≡ true → t ≡ true
         single true k = refl
         single false k = k
+
         right : (t : Bool) → ((t || true) && true) ≡ true
         right true = refl
         right false = refl

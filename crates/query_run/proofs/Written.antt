@@ -38,9 +38,11 @@ rows_text-whole refused graph blocks none first second all empty e f g =
 
 -- the part of a world of a question for degrees
 degree-part : (w : World) → IsPart w Degree (world_row w.bounds (length (nodes w)) ∷ degree_rows w)
-degree-part w =
-    (map (degree_row w) (nodes w), answer_degree w,
-    rw (length-map (nodes w) (degree_row w)) (ap (λ rows. world_row w.bounds (length (nodes w)) ∷ rows) (sym (map-map row_fields (degree_row w) (nodes w)))))
+degree-part w = (
+  map (degree_row w) (nodes w),
+  answer_degree w,
+  rw (length-map (nodes w) (degree_row w)) (ap (λ rows. world_row w.bounds (length (nodes w)) ∷ rows) (sym (map-map row_fields (degree_row w) (nodes w)))),
+)
 
 append-none : {X : Type 0} (xs : List X) → xs ≡ xs ++ []
 append-none [] = refl

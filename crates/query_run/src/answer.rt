@@ -43,12 +43,7 @@ fn add_node(
 }
 
 // Adds the block of a question for degrees.
-fn add_answer(
-    alloc: Global,
-    out: &mut Vec<u8>,
-    events: &EventList,
-    line: u64,
-) -> Result<(), Memory>
+fn add_answer(alloc: Global, out: &mut Vec<u8>, events: &EventList, line: u64) -> Result<(), Memory>
     requires { is_plain events.now ≡ true }
     ensures { OnOk result (out.new.items ≡ out.old.items ++ rows_text (degree_block (plain_graph events.now) line)) }
 {

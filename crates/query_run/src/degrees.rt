@@ -84,11 +84,7 @@ pub fn node_names(alloc: Global, events: &EventList) -> Result<Vec<Name>, Memory
 }
 
 // Adds the end of an event's edge, if the edge leads from a node.
-fn push_target<'e>(
-    names: &mut Vec<&'e Name>,
-    event: &'e Event,
-    node: &Name,
-) -> Result<(), Memory>
+fn push_target<'e>(names: &mut Vec<&'e Name>, event: &'e Event, node: &Name) -> Result<(), Memory>
     ensures { OnOk result (map (λ name. name.now) names.new.items ≡ map (λ name. name.now) names.old.items ++ target node.now (entity_of event.now)) }
 {
     if let Some(edge) = edge(event) {
@@ -101,11 +97,7 @@ fn push_target<'e>(
 }
 
 // Adds the beginning of an event's edge, if the edge leads to a node.
-fn push_source<'e>(
-    names: &mut Vec<&'e Name>,
-    event: &'e Event,
-    node: &Name,
-) -> Result<(), Memory>
+fn push_source<'e>(names: &mut Vec<&'e Name>, event: &'e Event, node: &Name) -> Result<(), Memory>
     ensures { OnOk result (map (λ name. name.now) names.new.items ≡ map (λ name. name.now) names.old.items ++ source node.now (entity_of event.now)) }
 {
     if let Some(edge) = edge(event) {

@@ -15,8 +15,8 @@ returns-clause-text c =
     let accepted = c.in_ok-accepted.accepted in
     let blocks = line_blocks (plain_graph accepted.events) 1 (lines_of c.args.script.now) in
     let whole = rows_text-whole c.as_slice.result.now (graph_row Instants c.whole.result c.len.result c.len-2.result) blocks
-        c.new-text.result.items c.add_all_refused.new.out.items c.add_graph.new.out.items c.add_lines.new.out.items
-        c.new-text.ensures.items c.in_ok-add_all_refused.ensures c.in_ok-add_graph.ensures c.in_ok-lines_clean.ensures.rows in
+    c.new-text.result.items c.add_all_refused.new.out.items c.add_graph.new.out.items c.add_lines.new.out.items
+    c.new-text.ensures.items c.in_ok-add_all_refused.ensures c.in_ok-add_graph.ensures c.in_ok-lines_clean.ensures.rows in
     let items = c.as_slice.ensures.value in
     let size : vec_len accepted.refused ≡ length accepted.refused.items = search rules in
     let count : c.len-2.result ≡ length (map (λ n. (n, Unbuilt)) accepted.refused.items) = c.len-2.ensures ∙ size ∙ sym (length-map accepted.refused.items (λ n. (n, Unbuilt))) in
