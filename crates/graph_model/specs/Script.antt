@@ -1,5 +1,5 @@
 -- The lines of a script, and the queries that they are.
-use Rattle.std.specs.Prelude.{ℕ, Bool, ◌==◌, ◌&&◌, ◌||◌, List, [], ◌∷◌, codes, length, drop, nat_eq, Option, None, Result, Ok, Err, if◌then◌else◌}
+use Rattle.std.specs.Prelude.{ℕ, Bool, ◌==◌, ◌&&◌, ◌||◌, List, [], ◌∷◌, codes, length, drop, nat_eq, None, Result, Ok, Err, if◌then◌else◌}
 use Rattle.std.specs.List.{list_all, starts_with}
 use Rattle.graph_model.specs.declared.queries.Ask.TheVariants.{Degree}
 use Rattle.graph_model.specs.declared.queries.Query.{Query}

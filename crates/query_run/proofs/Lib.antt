@@ -3,3 +3,4 @@ pub mod Scripts
 pub mod CommandWords
 pub mod Written
 pub mod OneOutput
+pub mod CommandLaw

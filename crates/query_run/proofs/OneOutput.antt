@@ -11,7 +11,7 @@ use Rattle.graph_model.specs.Answer.{Row, row_fields}
 use Rattle.graph_model.specs.RowText.{rows_text}
 use Rattle.graph_model.specs.Reading.{reading, world_of}
 use Rattle.graph_model.specs.Script.{QueryRefusal, is_blank, lines_of, query_of}
-use Rattle.graph_model.specs.Output.{AreBlocks, AreParts, IsBlock, IsBlockOf, IsOutput, IsPart, IsQueryBlock, graph_row, query_row, refused_row, world_row}
+use Rattle.graph_model.specs.Output.{AreBlocks, AreParts, IsBlockOf, IsOutput, IsPart, IsQueryBlock, graph_row, query_row, refused_row, world_row}
 use Rattle.world_laws.proofs.Rows.{one_answer}
 use Rattle.query_run.specs.Rows.{line_blocks}
 use Rattle.query_run.proofs.Written.{line_blocks-are}

@@ -1,6 +1,6 @@
 -- Present nodes and neighbours of a graph whose events are all additions.
-use Rattle.std.proofs.Common.{◌≡◌, ◌∙◌, ◌∷◌, [], ◌&&◌, ◌||◌, ℕ, Bool, true, false, List, Option, Some, None, refl, sym, ap, subst, inl, inr, ◌⊎◌, cond, map, drop, ◌+◌, ◌++◌}
-use Rattle.std.proofs.lemmas.Bool.{and_parts, true≢false, or_cases, or_left, or_right, cases_Bool}
+use Rattle.std.proofs.Common.{◌≡◌, ◌∙◌, ◌∷◌, [], ◌&&◌, ◌||◌, ℕ, Bool, true, false, List, Option, Some, None, refl, sym, ap, inl, inr, ◌⊎◌, cond, map, drop, ◌+◌, ◌++◌}
+use Rattle.std.proofs.lemmas.Bool.{and_parts, true≢false, or_cases, or_right}
 use Rattle.std.proofs.lemmas.Cmp.{int_eq_equiv}
 use Rattle.std.specs.Prelude.{slice_get, if◌then◌else◌, option_map, ℤ}
 use Rattle.std.proofs.lemmas.List.{drop_more}
@@ -14,20 +14,19 @@ use Rattle.graph_model.specs.declared.events.Event.{Event}
 use Rattle.graph_model.specs.declared.events.What.{What}
 use Rattle.graph_model.specs.declared.events.What.TheVariants.{Node as Update, Add, Delete}
 use Rattle.graph_model.specs.declared.events.Model.TheVariants.{Event as Instants}
-use Rattle.graph_model.specs.declared.queries.Direction.{Direction}
 use Rattle.graph_model.specs.declared.queries.Direction.TheVariants.{Outward, Inward, Both}
 use Rattle.graph_model.specs.Interval.{Interval}
 use Rattle.graph_model.specs.Names.{name_cmp, same_name, name_equiv, name_total}
 use Rattle.graph_model.specs.Rising.{put_rising, rising}
-use Rattle.graph_model.specs.Entity.{edge_cmp, entities, entity_of, adds as adds_what, is_about, is_addition, is_node, names_in, same_entity, subject}
-use Rattle.graph_model.specs.World.{World, arrange, base, event_cmp, events_of}
-use Rattle.graph_model.specs.Presence.{alive_at, edge_part, edge_present, edges, is_present_at, node_present, nodes}
+use Rattle.graph_model.specs.Entity.{edge_cmp, entities, entity_of, adds as adds_what, is_about, is_addition, is_node, names_in, subject}
+use Rattle.graph_model.specs.World.{World, arrange, base, event_cmp}
+use Rattle.graph_model.specs.Presence.{edge_part, edge_present, edges, is_present_at, node_present, nodes}
 use Rattle.graph_model.specs.Neighbours.{is_link, leads, neighbours}
 use Rattle.graph_model.specs.Keep.{is_named}
-use Rattle.world_laws.proofs.Order.{edge_exact, name_exact, same_entity-refl, same_entity-exact, same_name-refl, same_name-exact}
+use Rattle.world_laws.proofs.Order.{edge_exact, name_exact, same_entity-refl}
 use Rattle.world_laws.proofs.RisingItems.{any_rising, Rises-rising}
 use Rattle.world_laws.proofs.RisingFixed.{any_in_order, rising_fixed}
-use Rattle.world_laws.proofs.Present.{some_passes, any_kept}
+use Rattle.world_laws.proofs.Present.{some_passes}
 use Rattle.world_laws.proofs.Members.{any_entities, any_filter, any_filter_map, any_flat_map, any_same, option_passes, both_true, named, nodes_has, nodes_rise}
 use Rattle.world_laws.proofs.Filters.{any_weaker}
 use Rattle.graph_model.specs.Reading.{edge_of, event_of, field_of, is_edge, moment_of}

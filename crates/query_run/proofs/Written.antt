@@ -1,21 +1,20 @@
 -- Rows that were written one after another, and the blocks that they are.
-use Rattle.std.proofs.Common.{◌≡◌, ◌∙◌, ◌++◌, ◌∷◌, ◌+◌, ◌<◌, [], ℕ, Bool, true, false, List, Some, None, length, drop, get_or, map, refl, sym, ap, append_assoc}
+use Rattle.std.proofs.Common.{◌≡◌, ◌∙◌, ◌++◌, ◌∷◌, ◌+◌, ◌<◌, [], ℕ, Bool, true, false, List, None, length, drop, get_or, map, refl, sym, ap, append_assoc}
 use Rattle.std.proofs.lemmas.List.{drop_more, length-map}
 use Rattle.std.proofs.lemmas.Simd.{map-map}
 use Rattle.std.proofs.lemmas.Grind.{flat_map-append}
-use Rattle.std.specs.Prelude.{Result, Ok, Err, if◌then◌else◌}
+use Rattle.std.specs.Prelude.{Ok, Err, if◌then◌else◌}
 use Rattle.csv.specs.Writing.{default_writer, row_text}
 use Rattle.graph_model.specs.declared.queries.Ask.TheVariants.{Degree}
-use Rattle.graph_model.specs.declared.queries.Query.{Query}
 use Rattle.graph_model.specs.World.{World}
 use Rattle.graph_model.specs.Presence.{nodes}
 use Rattle.graph_model.specs.Answer.{degree_row, row_fields}
 use Rattle.graph_model.specs.RowText.{rows_text}
-use Rattle.graph_model.specs.Reading.{RecordRefusal, Unbuilt as RecordUnbuilt}
-use Rattle.graph_model.specs.Script.{QueryRefusal, Unbuilt, asks_degrees, is_blank, query_of}
-use Rattle.graph_model.specs.Output.{AreBlocks, AreParts, IsAnswerBlock, IsBlock, IsBlockOf, IsPart, IsQueryBlock, refused_row, world_row}
+use Rattle.graph_model.specs.Reading.{Unbuilt as RecordUnbuilt}
+use Rattle.graph_model.specs.Script.{Unbuilt, asks_degrees, is_blank}
+use Rattle.graph_model.specs.Output.{AreBlocks, IsBlock, IsBlockOf, IsPart, refused_row, world_row}
 use Rattle.world_laws.proofs.Answers.{answer_degree}
-use Rattle.query_run.specs.Rows.{block_of, degree_block, degree_rows, line_block, line_blocks, query_block}
+use Rattle.query_run.specs.Rows.{block_of, degree_rows, line_block, line_blocks}
 
 -- the row of an item, and those of the items behind it
 pub rows_text-step : {X : Type 0} (f : X → List (List ℕ)) (xs : List X) (i : ℕ) (x : X) (before after : List ℕ) → i < length xs → x ≡ get_or xs i x

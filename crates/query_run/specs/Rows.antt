@@ -1,5 +1,5 @@
 -- The rows that are written for the lines of a script about a graph.
-use Rattle.std.specs.Prelude.{ℕ, Bool, true, false, ◌+◌, List, [], ◌∷◌, ◌++◌, length, map, Option, None, Result, Ok, Err}
+use Rattle.std.specs.Prelude.{ℕ, Bool, true, false, ◌+◌, List, [], ◌∷◌, ◌++◌, length, map, Result, Ok, Err}
 use Rattle.graph_model.specs.declared.queries.Ask.TheVariants.{Degree}
 use Rattle.graph_model.specs.declared.queries.Query.{Query}
 use Rattle.graph_model.specs.World.{World}

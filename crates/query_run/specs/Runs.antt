@@ -1,5 +1,5 @@
 -- What a run does to its inputs and its sink.
-use Rattle.std.specs.Prelude.{◌≡◌, ◌⊎◌, ◌<◌, ◌≤◌, ℕ, true, false, List, Option, Some, None, length, take, ⊤}
+use Rattle.std.specs.Prelude.{◌≡◌, ◌≤◌, ℕ, true, false, List, Option, Some, None, length, take, ⊤}
 use Rattle.std.specs.Io.KnownBytes.{append_known}
 use Rattle.graph_model.specs.declared.events.Model.{Model}
 use Rattle.graph_model.specs.Command.{Command, Files}

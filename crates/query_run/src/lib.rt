@@ -10,5 +10,5 @@ mod rows;
 mod top;
 mod words;
 
-pub use laws::outputs_are_one;
+pub use laws::{commands_name_their_files, outputs_are_one};
 pub use top::{Status, Which, run};

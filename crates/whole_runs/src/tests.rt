@@ -97,9 +97,17 @@ fn faults_at_each_call(rt: HostRuntime) -> Result<(), Fail> {
     }
     for call in 1usize..12 {
         let (said, text) = outcome(rt.alloc(), "e", 0, call as u64)?;
-        let status = if call <= 10 { Status::OutputFault } else { Status::Done };
+        let status = if call <= 10 {
+            Status::OutputFault
+        } else {
+            Status::Done
+        };
         assert_eq!(rt; said, status, "failing write {call}");
-        let front = if call <= 10 { 16 * (call - 1) } else { OUTPUT.len() };
+        let front = if call <= 10 {
+            16 * (call - 1)
+        } else {
+            OUTPUT.len()
+        };
         assert_eq!(rt; Some(text.as_slice()), OUTPUT.get(..front));
     }
     Ok(())

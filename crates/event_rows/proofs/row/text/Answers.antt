@@ -1,4 +1,3 @@
-use Rattle.std.proofs.Common.{◌≡◌, refl}
 use Rattle.std.proofs.lemmas.Str.{is_utf8-from_IsUtf8}
 use Rattle.event_rows.proofs.Fields.{is_utf8-false}
 use Rattle.event_rows.proofs.row.text.Goals as goal

@@ -1,4 +1,4 @@
-use Rattle.std.proofs.Common.{◌≡◌, ◌∙◌, [], sym, ap, length, Bor}
+use Rattle.std.proofs.Common.{◌∙◌, [], sym, ap, length}
 use Rattle.graph_model.specs.Interval.{earliest, latest}
 use Rattle.query_run.specs.Plain.{sources, targets}
 use Rattle.query_run.proofs.Plain.{counted, counted_both, neighbours-in, neighbours-out, neighbours-both}

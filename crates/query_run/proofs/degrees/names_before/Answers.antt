@@ -1,6 +1,4 @@
-use Rattle.std.proofs.Common.{◌≡◌, ◌∙◌, ◌++◌, ◌+◌, drop, map, sym, ap}
 use Rattle.std.proofs.Common.{append_assoc}
-use Rattle.query_run.specs.Plain.{sources}
 use Rattle.query_run.proofs.Plain.{sources-at}
 use Rattle.query_run.proofs.degrees.names_before.Goals as goal
 

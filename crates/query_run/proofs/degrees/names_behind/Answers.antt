@@ -1,6 +1,4 @@
-use Rattle.std.proofs.Common.{◌≡◌, ◌∙◌, ◌++◌, ◌+◌, drop, map, sym, ap}
 use Rattle.std.proofs.Common.{append_assoc}
-use Rattle.query_run.specs.Plain.{targets}
 use Rattle.query_run.proofs.Plain.{targets-at}
 use Rattle.query_run.proofs.degrees.names_behind.Goals as goal
 

@@ -1,4 +1,4 @@
-use Rattle.std.proofs.Common.{◌≡◌, ◌∙◌, ◌+◌, ◌-◌, ◌≤◌, ◌<◌, [], sym, ap, drop, arith}
+use Rattle.std.proofs.Common.{◌≡◌, ◌∙◌, ◌+◌, ◌-◌, [], sym, ap, arith}
 use Rattle.graph_model.specs.Interval.{earliest, latest}
 use Rattle.query_run.specs.Plain.{put_all}
 use Rattle.graph_model.specs.Entity.{entity_of, names_in}

@@ -1,5 +1,4 @@
-use Rattle.std.proofs.Common.{◌≡◌, ◌∙◌, ◌∷◌, [], List, ℕ, drop, ap, rules}
-use Rattle.graph_model.specs.Script.{lines_of}
+use Rattle.std.proofs.Common.{◌≡◌, []}
 use Rattle.query_run.proofs.Scripts.{lines_of-behind, lines_of-parts, no-bytes}
 use Rattle.query_run.proofs.lines.first_line.Goals as goal
 

@@ -1,4 +1,3 @@
-use Rattle.std.proofs.Common.{◌≡◌, true}
 use Rattle.csv.specs.Records.{fields_of}
 use Rattle.query_run.proofs.Plain.{event_of-adds, is_plain-push}
 use Rattle.query_run.proofs.reading.add_record.Goals as goal
