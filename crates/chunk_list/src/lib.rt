@@ -1,6 +1,8 @@
-//! A list that takes insertions at any place.
+//! A list that takes insertions at any place, in parts of a bounded length.
 #![tactic(auto)]
 
 mod list;
+mod part;
+mod parts;
 
 pub use list::ChunkList;
