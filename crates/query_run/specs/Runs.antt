@@ -1,5 +1,5 @@
 -- What a run does to its inputs and its sink.
-use Rattle.std.specs.Prelude.{◌≡◌, ◌≤◌, ℕ, true, false, List, Option, Some, None, length, take, ⊤}
+use Rattle.std.specs.Prelude.{◌≡◌, ◌⊎◌, ◌<◌, ◌≤◌, ◌+◌, ◌%◌, ◌^◌, ℕ, true, false, List, Option, Some, None, length, take, ⊤}
 use Rattle.std.specs.Io.KnownBytes.{append_known}
 use Rattle.graph_model.specs.declared.events.Model.{Model}
 use Rattle.graph_model.specs.Command.{Command, Files}
@@ -59,3 +59,26 @@ abbrev pub HasEvents : Option Command → Option (List (List ℕ × List ℕ)) �
 HasEvents None files = ⊥
 HasEvents (Some command) None = ⊤
 HasEvents (Some command) (Some files) = (events : List ℕ) × (bytes_of files (path_of Events command) ≡ Some events) × (length events ≤ most_of Events)
+
+-- the answer was written, or memory was wanting for it
+abbrev pub IsAnswered : Status → Type 0
+IsAnswered Done = ⊤
+IsAnswered DoneWithRefusals = ⊤
+IsAnswered Memory = ⊤
+IsAnswered Usage = ⊥
+IsAnswered (InputFault which) = ⊥
+IsAnswered OutputFault = ⊥
+IsAnswered (TooLong which) = ⊥
+
+-- how many files are begun when a file is read
+abbrev pub place_of : Which → ℕ
+place_of Events = 1
+place_of Script = 2
+
+-- a file was begun, and more bytes of it were given than it may have
+abbrev pub IsOver : Which → ℕ → ℕ → ℕ → Type 0
+IsOver which begun_before begun given = (begun ≡ (begun_before + place_of which) % 2 ^ 64) × (most_of which < given)
+
+-- the words are no command, or a file that they name is missing
+abbrev pub IsAmiss : Option Command → Option (List (List ℕ × List ℕ)) → Type 0
+IsAmiss command files = (command ≡ None) ⊎ (Misses command files Events ⊎ Misses command files Script)

@@ -3,7 +3,7 @@ ghost use Rattle.std.specs.Prelude.{◌≡◌, ◌⊎◌, ◌↔◌, ◌<◌, �
 ghost use Rattle.std.specs.Io.KnownBytes.{IsAtEnd};
 ghost use Rattle.graph_model.specs.Command.{command};
 ghost use Rattle.outside_io.specs.Outside.{Rises};
-ghost use Rattle.query_run.specs.Runs.{HasEvents, IsTooLong, Misses, Writes};
+ghost use Rattle.query_run.specs.Runs.{HasEvents, IsAmiss, IsAnswered, IsOver, IsTooLong, Misses, Writes};
 
 use crate::answer::answer_files;
 use crate::words::read_words;
@@ -45,18 +45,6 @@ const MOST_EVENTS: usize = 268_435_456;
 /// How many bytes a script may have.
 const MOST_SCRIPT: usize = 1_048_576;
 
-fn status_of(fault: ReadFault, which: Which) -> Status
-    ensures input { (result ≡ Status.InputFault which) ↔ (fault ≡ ReadFault.Input) }
-    ensures too_long { (result ≡ Status.TooLong which) ↔ (fault ≡ ReadFault.TooLong) }
-    ensures memory { (result ≡ Status.Memory) ↔ (fault ≡ ReadFault.Memory) }
-{
-    match fault {
-        ReadFault::Input => Status::InputFault(which),
-        ReadFault::TooLong => Status::TooLong(which),
-        ReadFault::Memory => Status::Memory,
-    }
-}
-
 /// Carries out the command that the words after the program's name are: reads the events file to its end, then the
 /// script to its end, and only then writes the output. Nothing is written at any status but `Done`, `DoneWithRefusals`
 /// and `OutputFault`; what was written at an `OutputFault` is a front of the output.
@@ -91,6 +79,15 @@ pub fn run<I: Inputs, O: Sink, L: Ledger>(
     ensures to_the_ends { (result ≡ Status.Done) ⊎ (result ≡ Status.DoneWithRefusals) → (I.begun inputs.new ≡ (I.begun inputs.old + 2) % 2 ^ 64)
         × IfSome (I.had_left inputs.new) (λ had. had ≡ false) × IsAtEnd (I.left inputs.new) }
 
+    // Where nothing is amiss with the words and the files, no count of faults rose, and no file is over its limit, the
+    // answer is there, or memory was wanting.
+    ensures complete { IsAnswered result
+        ⊎ (IsAmiss (command words.now) (I.files inputs.old)
+        ⊎ (Rises (I.faults_before inputs.new) (I.faults inputs.new)
+        ⊎ (Rises (O.faults sink.old) (O.faults sink.new)
+        ⊎ (IsOver Which.Events (I.begun inputs.old) (I.begun inputs.new) (I.given inputs.new)
+        ⊎ IsOver Which.Script (I.begun inputs.old) (I.begun inputs.new) (I.given inputs.new))))) }
+
     ensures steps { steps.new ≡ steps.old }
 {
     let Some(command) = read_words(words) else {
@@ -98,11 +95,15 @@ pub fn run<I: Inputs, O: Sink, L: Ledger>(
     };
     let events = match read_all(alloc, inputs, command.events, MOST_EVENTS) {
         Ok(bytes) => bytes,
-        Err(fault) => return status_of(fault, Which::Events),
+        Err(ReadFault::Input) => return Status::InputFault(Which::Events),
+        Err(ReadFault::TooLong) => return Status::TooLong(Which::Events),
+        Err(ReadFault::Memory) => return Status::Memory,
     };
     let script = match read_all(alloc, inputs, command.script, MOST_SCRIPT) {
         Ok(bytes) => bytes,
-        Err(fault) => return status_of(fault, Which::Script),
+        Err(ReadFault::Input) => return Status::InputFault(Which::Script),
+        Err(ReadFault::TooLong) => return Status::TooLong(Which::Script),
+        Err(ReadFault::Memory) => return Status::Memory,
     };
     let Ok(answer) = answer_files(alloc, events.as_slice(), script.as_slice()) else {
         return Status::Memory;
