@@ -8,15 +8,24 @@ use crate::part::{MOST, Part};
 use std::alloc::{AllocError, Global};
 use std::marker::Model;
 
+/// Adds one to each number.
+fn increment(firsts: &mut [usize])
+    requires fits { (k : ℕ) → k < length firsts.old → slice_index firsts.old k < usize.MAX }
+    ensures moved { (k : ℕ) → k < length firsts.old → slice_index firsts.new k ≡ slice_index firsts.old k + 1 }
+{
+    for first in firsts.iter_mut() {
+        *first += 1;
+    }
+}
+
 /// Adds one to each number from a place on.
 fn shift(firsts: &mut [usize], from: usize)
+    requires from { from ≤ length firsts.old }
     requires fits { (k : ℕ) → from ≤ k → k < length firsts.old → slice_index firsts.old k < usize.MAX }
     ensures kept { (k : ℕ) → k < from → slice_index firsts.new k ≡ slice_index firsts.old k }
     ensures moved { (k : ℕ) → from ≤ k → k < length firsts.old → slice_index firsts.new k ≡ slice_index firsts.old k + 1 }
 {
-    for i in from..firsts.len() {
-        firsts[i] += 1;
-    }
+    increment(&mut firsts[from..]);
 }
 
 /// The last place whose number is at most `i`, where the first is and the next is greater.

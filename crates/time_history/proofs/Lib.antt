@@ -16,3 +16,4 @@ pub mod Props
 pub mod Values
 pub mod Next
 pub mod Held
+pub mod Placed

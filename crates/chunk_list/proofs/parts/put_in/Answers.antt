@@ -17,7 +17,16 @@ overflow_sub-offset g c =
     omega (arith, first, c.requires.low)
 
 pub shift-requires : goal.shift-requires
-shift-requires g c = record { fits = λ k a b. starts_within c.as_mut_slice.result.now c.args.parts.now.items k _ (c.as_mut_slice.ensures.value ∙ c.requires.firsts) c.requires.fits b }
+shift-requires g c =
+    let at = c.args.at in
+    let ps = c.args.parts.now.items in
+    let fs = c.args.firsts.now.items in
+    let lt : at < length ps = omega (arith, c.requires.part, c.args.parts.now.ok.0) in
+    let in_firsts : at < length fs = omega (arith, lt, ap length c.requires.firsts, length-starts 0 ps) in
+    record {
+      from = omega (arith, in_firsts, ap length c.as_mut_slice.ensures.value);
+      fits = λ k a b. starts_within c.as_mut_slice.result.now ps k _ (c.as_mut_slice.ensures.value ∙ c.requires.firsts) c.requires.fits b;
+    }
 
 pub returns-clause-firsts : goal.returns-clause-firsts
 returns-clause-firsts g c =
