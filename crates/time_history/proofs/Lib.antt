@@ -17,3 +17,4 @@ pub mod Values
 pub mod Next
 pub mod Held
 pub mod Placed
+pub mod Whole

@@ -4,6 +4,8 @@
 mod history;
 mod search;
 mod span;
+#[cfg(test)]
+mod tests;
 mod updates;
 
 pub use history::History;
