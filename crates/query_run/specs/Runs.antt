@@ -34,6 +34,16 @@ Writes Memory command files old new = new ≡ old
 Writes (InputFault which) command files old new = new ≡ old
 Writes (TooLong which) command files old new = new ≡ old
 
+-- a status at which some of the output may have been written
+abbrev pub IsWriting : Status → Type 0
+IsWriting Done = ⊤
+IsWriting DoneWithRefusals = ⊤
+IsWriting OutputFault = ⊤
+IsWriting Usage = ⊥
+IsWriting Memory = ⊥
+IsWriting (InputFault which) = ⊥
+IsWriting (TooLong which) = ⊥
+
 -- the path of a file that a command names
 abbrev pub path_of : Which → Command → List ℕ
 path_of Events (Files model events script) = events

@@ -3,7 +3,7 @@ ghost use Rattle.std.specs.Prelude.{◌≡◌, ◌⊎◌, ◌↔◌, ◌<◌, �
 ghost use Rattle.std.specs.Io.KnownBytes.{IsAtEnd};
 ghost use Rattle.graph_model.specs.Command.{command};
 ghost use Rattle.outside_io.specs.Outside.{Rises};
-ghost use Rattle.query_run.specs.Runs.{HasEvents, IsAmiss, IsAnswered, IsOver, IsTooLong, Misses, Writes};
+ghost use Rattle.query_run.specs.Runs.{HasEvents, IsAmiss, IsAnswered, IsOver, IsTooLong, IsWriting, Misses, Writes};
 
 use crate::answer::answer_files;
 use crate::words::read_words;
@@ -75,8 +75,8 @@ pub fn run<I: Inputs, O: Sink, L: Ledger>(
     ensures script_fault_after { result ≡ Status.InputFault Which.Script → HasEvents (command words.now) (I.files inputs.old) }
     ensures script_long_after { result ≡ Status.TooLong Which.Script → HasEvents (command words.now) (I.files inputs.old) }
 
-    // An output stands on both files, read to their ends.
-    ensures to_the_ends { (result ≡ Status.Done) ⊎ (result ≡ Status.DoneWithRefusals) → (I.begun inputs.new ≡ (I.begun inputs.old + 2) % 2 ^ 64)
+    // An output, or a front of it, stands on both files, read to their ends.
+    ensures to_the_ends { IsWriting result → (I.begun inputs.new ≡ (I.begun inputs.old + 2) % 2 ^ 64)
         × IfSome (I.had_left inputs.new) (λ had. had ≡ false) × IsAtEnd (I.left inputs.new) }
 
     // Where nothing is amiss with the words and the files, no count of faults rose, and no file is over its limit, the

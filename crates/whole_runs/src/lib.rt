@@ -1,6 +1,8 @@
-//! Whole runs of the top call over memory, as tests: they stand apart from it, so that a change of a test proves nothing
-//! of it again.
+//! Whole runs of the top call over memory, and uses of the public types, as tests: they stand apart, so that a change of a
+//! test proves nothing else again.
 #![tactic(auto)]
 
 #[cfg(test)]
 mod tests;
+#[cfg(test)]
+mod values;
