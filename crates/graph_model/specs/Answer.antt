@@ -45,6 +45,7 @@ pub data Row : Type 0 where
   Typed : (node : List ℕ) → (name : List ℕ) → Row
   Recorded : (event : Event) → Row
 
+-- the first and last time as they are printed, or `none` twice
 abbrev pub extent_texts : Option (ℤ × ℤ) → List (List ℕ)
 extent_texts None = codes "none" ∷ codes "none" ∷ []
 extent_texts (Some times) = signed_decimal times.0 ∷ signed_decimal times.1 ∷ []
@@ -77,13 +78,16 @@ row_names (Seeded node) = node ∷ []
 row_names (Arrived node moment) = node ∷ []
 row_names _ = []
 
+-- the place of an event in a history
 abbrev pub row_place : Row → ℕ
 row_place (Happened place time kind) = place
 row_place _ = 0
 
+-- rows by their names, and then by their places
 abbrev pub row_cmp : Row → Row → Ordering
 row_cmp a b = ordering_then (slice_cmp name_cmp (row_names a) (row_names b)) (nat_cmp (row_place a) (row_place b))
 
+-- each row is less than all after it
 abbrev pub RowsRise : List Row → Type 0
 RowsRise rows = Rises row_cmp rows
 
@@ -92,6 +96,7 @@ abbrev pub extent_row : List Event → Row
 extent_row [] = Extent 0 None
 extent_row (x ∷ xs) = Extent (length (x ∷ xs)) (Some (x.time, last_time x.time xs))
 
+-- the numbers of neighbours of a node: inward, outward, and both ways
 abbrev pub degree_row : World → List ℕ → Row
 degree_row w node = Degrees node (length (neighbours w Inward node)) (length (neighbours w Outward node)) (length (neighbours w Both node))
 
@@ -99,6 +104,7 @@ degree_row w node = Degrees node (length (neighbours w Inward node)) (length (ne
 abbrev pub update_row : World → List ℕ → Row
 update_row w node = Counted node (updates w node)
 
+-- how an event of an edge is printed in a history
 abbrev pub edge_kind : Event → List ℕ
 edge_kind x = if is_deletion x then codes "delete" else codes "edge"
 

@@ -25,6 +25,7 @@ last_value key xs = last_or None (filter_map (λ x. prop_value key (props_of x))
 abbrev pub value_of : List ℕ → List Event → Option Value
 value_of key xs = last_value key (live xs)
 
+-- whether a comparison holds between values that compare so
 abbrev pub meets : Cmp → Ordering → Bool
 meets Eq o = is_eq o
 meets Ne o = is_ne o

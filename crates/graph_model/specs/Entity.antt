@@ -17,6 +17,7 @@ use Rattle.graph_model.specs.Names.{name_cmp, same_name}
 abbrev pub edge_cmp : EdgeName → EdgeName → Ordering
 edge_cmp a b = ordering_then (name_cmp a.src b.src) (ordering_then (name_cmp a.dst b.dst) (name_cmp a.layer b.layer))
 
+-- edges with one source, one destination and one layer
 abbrev pub same_edge : EdgeName → EdgeName → Bool
 same_edge a b = is_eq (edge_cmp a b)
 
@@ -27,43 +28,51 @@ entity_cmp (Node a) (Edge b) = Less
 entity_cmp (Edge a) (Node b) = Greater
 entity_cmp (Edge a) (Edge b) = edge_cmp a b
 
+-- entities that are one
 abbrev pub same_entity : Entity → Entity → Bool
 same_entity a b = is_eq (entity_cmp a b)
 
--- the entity that an event is about
+-- the node that is updated, or the edge that is added or deleted
 abbrev pub subject : What → Entity
 subject (Update name props) = Node name
 subject (Add edge props) = Edge edge
 subject (Delete edge) = Edge edge
 
+-- the entity of an event
 abbrev pub entity_of : Event → Entity
 entity_of x = subject x.what
 
--- the properties that an event sets
+-- the properties that are set; a deletion sets none
 abbrev pub what_props : What → List (List ℕ × Value)
 what_props (Update name props) = props
 what_props (Add edge props) = props
 what_props (Delete edge) = []
 
+-- the properties of an event
 abbrev pub props_of : Event → List (List ℕ × Value)
 props_of x = what_props x.what
 
+-- whether it is the deletion of an edge
 abbrev pub deletes : What → Bool
 deletes (Update name props) = false
 deletes (Add edge props) = false
 deletes (Delete edge) = true
 
+-- whether an event is a deletion
 abbrev pub is_deletion : Event → Bool
 is_deletion x = deletes x.what
 
+-- whether it is the addition of an edge
 abbrev pub adds : What → Bool
 adds (Update name props) = false
 adds (Add edge props) = true
 adds (Delete edge) = false
 
+-- whether an event is an addition
 abbrev pub is_addition : Event → Bool
 is_addition x = adds x.what
 
+-- whether an entity is a node
 abbrev pub is_node : Entity → Bool
 is_node (Node name) = true
 is_node (Edge edge) = false

@@ -16,6 +16,7 @@ use Rattle.graph_model.specs.World.{World, events_of, remake, type_of}
 abbrev pub keep : (Entity → Bool) → World → World
 keep p w = remake w w.bounds (filter (λ x. p (entity_of x)) w.events)
 
+-- whether a name is in a list of names
 abbrev pub is_named : List (List ℕ) → List ℕ → Bool
 is_named names name = list_any (same_name name) names
 

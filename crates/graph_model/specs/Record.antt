@@ -9,6 +9,7 @@ use Rattle.graph_model.specs.declared.events.What.TheVariants.{Node as Update, A
 use Rattle.graph_model.specs.declared.events.Event.{Event}
 use Rattle.graph_model.specs.Interval.{Interval}
 
+-- true or false
 abbrev pub flag_text : Bool → List ℕ
 flag_text true = codes "true"
 flag_text false = codes "false"
@@ -19,13 +20,15 @@ value_text (Int n) = codes "i=" ++ signed_decimal n
 value_text (Flag b) = codes "b=" ++ flag_text b
 value_text (Text t) = codes "s=" ++ t
 
+-- a key, a colon, and the value with its type
 abbrev pub prop_text : List ℕ × Value → List ℕ
 prop_text p = p.0 ++ codes ":" ++ value_text p.1
 
+-- the source, the destination and the layer of an edge
 abbrev pub edge_fields : EdgeName → List (List ℕ)
 edge_fields edge = edge.src ∷ edge.dst ∷ edge.layer ∷ []
 
--- the fields of an event's record
+-- its fields, with the text of its time
 abbrev pub what_fields : List ℕ → What → List (List ℕ)
 what_fields time (Update name props) = codes "node" ∷ time ∷ name ∷ map prop_text props
 what_fields time (Add edge props) = (codes "edge" ∷ time ∷ edge_fields edge) ++ map prop_text props
@@ -36,9 +39,11 @@ abbrev pub order_text : ℕ → List ℕ
 order_text zero = []
 order_text (suc k) = codes "@" ++ decimal (suc k)
 
+-- the time of an event, with its order
 abbrev pub time_text : Event → List ℕ
 time_text x = signed_decimal x.time ++ order_text x.order
 
+-- the fields of the record of an event
 abbrev pub event_fields : Event → List (List ℕ)
 event_fields x = what_fields (time_text x) x.what
 

@@ -69,6 +69,7 @@ abbrev pub allows : Model → Event → Bool
 allows Instants x = not (is_deletion x)
 allows Persistent x = true
 
+-- two whole numbers, two flags or two texts
 abbrev pub same_type : Value → Value → Bool
 same_type (Int a) (Int b) = true
 same_type (Flag a) (Flag b) = true
@@ -87,13 +88,21 @@ types_agree x y = not (beq (is_node (entity_of x)) (is_node (entity_of y))) || p
 abbrev pub all_typed : List Event → Bool
 all_typed xs = list_all (λ x. list_all (types_agree x) xs) xs
 
--- a list that is arranged and inside the bounds, with no deletion in the event model, with properties that rise by key, and with values of one type for each key of nodes, and of edges; and types that rise strictly by node, of nodes that the list names
+-- what holds of every world that comes from records, and of every view of it
 pub record IsLawful (w : World) : Type 0 where
+  -- the bounds are in order
   pub bounds : IsTrue (int_le w.bounds.lo w.bounds.hi)
+  -- the list is in canonical order
   pub arranged : arrange w.events ≡ w.events
+  -- each time is inside the bounds
   pub inside : IsTrue (list_all (λ x. is_inside w.bounds x.time) w.events)
+  -- the event model has no deletion
   pub allowed : IsTrue (list_all (allows w.model) w.events)
+  -- the properties of each event rise by key
   pub rising : AllByRecursion (λ x. KeysRise (props_of x)) w.events
+  -- each key has values of one type among node events, and among edge events
   pub typed : IsTrue (all_typed w.events)
+  -- types rise strictly by node
   pub types_rise : Rises type_cmp w.types
+  -- each is the type of a node that the list names
   pub types_named : IsTrue (list_all (λ (t : List ℕ × List ℕ). named w.events t.0) w.types)

@@ -10,8 +10,11 @@ use std::cmp::Ordering;
 /// An edge, by its source, its destination and its layer.
 #[derive(PartialEq, Eq, PartialOrd, Ord, Drop)]
 pub struct EdgeName {
+    /// The node that it leads from.
     pub src: Name,
+    /// The node that it leads to.
     pub dst: Name,
+    /// The layer that it lies in.
     pub layer: Name,
 }
 
@@ -25,12 +28,15 @@ pub enum Entity {
 /// What happens: an update of a node, an addition of an edge, or its deletion.
 #[derive(Drop)]
 pub enum What {
+    /// An update of a node, with properties.
     Node(Name, Props),
+    /// An addition of an edge, with properties.
     Add(EdgeName, Props),
+    /// A deletion of an edge.
     Delete(EdgeName),
 }
 
-/// An event. The order tells apart the events of one entity at one time.
+/// An event: when it happens, from -2^62 to 2^62 - 1, and what. The order tells apart the events of one entity at one time.
 #[derive(Drop)]
 pub struct Event {
     pub time: i64,
@@ -41,11 +47,14 @@ pub struct Event {
 /// Whether edges are instants, or last until they are deleted.
 #[derive(Clone, Copy, Drop)]
 pub enum Model {
+    /// An edge is an instant: it is alive at the times of its additions.
     Event,
+    /// An edge lasts from an addition until a deletion.
     Persistent,
 }
 
 impl EdgeName {
+    /// An equal name of an edge.
     pub fn copy(&self) -> Result<EdgeName, AllocError>
         ensures { IfOk result (λ edge. edge ≡ self.now) }
     {
@@ -58,6 +67,7 @@ impl EdgeName {
 }
 
 impl What {
+    /// An equal happening.
     pub fn copy(&self) -> Result<What, AllocError>
         ensures { IfOk result (λ what. what ≡ self.now) }
     {
@@ -70,6 +80,7 @@ impl What {
 }
 
 impl Event {
+    /// An equal event.
     pub fn copy(&self) -> Result<Event, AllocError>
         ensures { IfOk result (λ event. event ≡ self.now) }
     {
@@ -106,6 +117,7 @@ impl std::marker::Model for EventList {
 }
 
 impl EventList {
+    /// An empty list. It takes no memory.
     pub fn new(alloc: Global) -> EventList
         ensures { result ≡ [] }
     {
@@ -114,12 +126,14 @@ impl EventList {
         }
     }
 
+    /// How many items there are.
     pub fn len(&self) -> usize
         ensures { result ≡ length self.now }
     {
         self.items.len()
     }
 
+    /// The item at a place, counted from 0.
     pub fn item(&self, i: usize) -> &Event
         requires { i < length self.now }
         ensures { slice_get self.now i ≡ Some result.now }
@@ -127,6 +141,7 @@ impl EventList {
         &self.items[i]
     }
 
+    /// Adds an item at the end. Where memory is wanting, the list stays as it is.
     pub fn push(&mut self, x: Event) -> Result<(), AllocError>
         ensures ok { OnOk result (self.new ≡ self.old ++ x ∷ []) }
         ensures err { OnErr result (self.new ≡ self.old) }

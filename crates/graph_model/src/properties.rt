@@ -13,12 +13,16 @@ use std::alloc::{AllocError, Global};
 /// The value of a property.
 #[derive(Drop)]
 pub enum Value {
+    /// A whole number of 64 signed bits.
     Int(i64),
+    /// True or false.
     Flag(bool),
+    /// A text.
     Text(Text),
 }
 
 impl Value {
+    /// An equal value.
     pub fn copy(&self) -> Result<Value, AllocError>
         ensures { IfOk result (λ value. value ≡ self.now) }
     {
@@ -68,7 +72,7 @@ impl Props {
     ghost use Rattle.graph_model.specs.Props.{put_prop, has_key, KeysRise};
     ghost use Rattle.graph_model.specs.PutFault.{IsPutFault};
 
-    /// No property.
+    /// No property. It takes no memory.
     pub fn new(alloc: Global) -> Props
         ensures { result ≡ [] }
     {
@@ -77,6 +81,7 @@ impl Props {
         }
     }
 
+    /// How many properties there are: at most 256.
     pub fn len(&self) -> usize
         ensures len { result ≡ length self.now }
         ensures most { length self.now ≤ 256 }
@@ -85,6 +90,7 @@ impl Props {
         self.items.len()
     }
 
+    /// The key at a place, counted from 0.
     pub fn key_at(&self, i: usize) -> &Name
         requires { i < length self.now }
         ensures { slice_get (map (λ p. p.0) self.now) i ≡ Some result.now }
@@ -92,6 +98,7 @@ impl Props {
         &self.items[i].key
     }
 
+    /// The value at a place, counted from 0.
     pub fn value_at(&self, i: usize) -> &Value
         requires { i < length self.now }
         ensures { slice_get (map (λ p. p.1) self.now) i ≡ Some result.now }
@@ -106,7 +113,7 @@ impl Props {
         has_item(self.items.as_slice(), key)
     }
 
-    /// Puts a property in its place.
+    /// Puts a property in its place. After a fault the properties are as they were.
     pub fn insert(&mut self, key: Name, value: Value) -> Result<(), PropsFault>
         ensures ok { OnOk result (self.new ≡ put_prop (key, value) self.old) }
         ensures free { OnOk result (IsFalse (has_key key self.old)) }
@@ -124,6 +131,7 @@ impl Props {
         Ok(())
     }
 
+    /// Equal properties.
     pub fn copy(&self) -> Result<Props, AllocError>
         ensures { IfOk result (λ props. props ≡ self.now) }
     {
@@ -141,8 +149,11 @@ impl Props {
 /// Why a property was not put.
 #[derive(Drop)]
 pub enum PropsFault {
+    /// There is a property of this key.
     Repeated,
+    /// There is none, and 256 are held.
     Full,
+    /// Memory was wanting.
     Memory,
 }
 

@@ -9,19 +9,28 @@ use std::alloc::{AllocError, Global};
 /// How two values are compared.
 #[derive(Clone, Copy, Drop)]
 pub enum Cmp {
+    /// Equal.
     Eq,
+    /// Not equal, of one type.
     Ne,
+    /// Less.
     Lt,
+    /// Less or equal.
     Le,
+    /// Greater.
     Gt,
+    /// Greater or equal.
     Ge,
 }
 
 /// Which way a walk follows edges.
 #[derive(Clone, Copy, Drop)]
 pub enum Direction {
+    /// Along edges, from source to destination.
     Outward,
+    /// Against edges.
     Inward,
+    /// Either way.
     Both,
 }
 
@@ -40,6 +49,7 @@ impl std::marker::Model for NameList {
 }
 
 impl NameList {
+    /// An empty list. It takes no memory.
     pub fn new(alloc: Global) -> NameList
         ensures { result ≡ [] }
     {
@@ -48,12 +58,14 @@ impl NameList {
         }
     }
 
+    /// How many items there are.
     pub fn len(&self) -> usize
         ensures { result ≡ length self.now }
     {
         self.items.len()
     }
 
+    /// The item at a place, counted from 0.
     pub fn item(&self, i: usize) -> &Name
         requires { i < length self.now }
         ensures { slice_get self.now i ≡ Some result.now }
@@ -61,6 +73,7 @@ impl NameList {
         &self.items[i]
     }
 
+    /// Adds an item at the end. Where memory is wanting, the list stays as it is.
     pub fn push(&mut self, x: Name) -> Result<(), AllocError>
         ensures ok { OnOk result (self.new ≡ self.old ++ x ∷ []) }
         ensures err { OnErr result (self.new ≡ self.old) }
@@ -85,6 +98,7 @@ impl std::marker::Model for TypeList {
 }
 
 impl TypeList {
+    /// An empty list. It takes no memory.
     pub fn new(alloc: Global) -> TypeList
         ensures { result ≡ [] }
     {
@@ -93,12 +107,14 @@ impl TypeList {
         }
     }
 
+    /// How many items there are.
     pub fn len(&self) -> usize
         ensures { result ≡ length self.now }
     {
         self.items.len()
     }
 
+    /// The item at a place, counted from 0.
     pub fn item(&self, i: usize) -> &(Name, Name)
         requires { i < length self.now }
         ensures { slice_get self.now i ≡ Some result.now }
@@ -106,6 +122,7 @@ impl TypeList {
         &self.items[i]
     }
 
+    /// Adds an item at the end. Where memory is wanting, the list stays as it is.
     pub fn push(&mut self, x: (Name, Name)) -> Result<(), AllocError>
         ensures ok { OnOk result (self.new ≡ self.old ++ x ∷ []) }
         ensures err { OnErr result (self.new ≡ self.old) }
@@ -118,17 +135,29 @@ impl TypeList {
 /// A view of a graph.
 #[derive(Drop)]
 pub enum Op {
+    /// The moments from the first number up to but not including the second, each from -2^62 to 2^62.
     Window(i64, i64),
+    /// One moment, from -2^62 to 2^62 - 1.
     At(i64),
+    /// The moments before one from -2^62 to 2^62.
     Before(i64),
+    /// The moments after one from -2^62 to 2^62 - 1.
     After(i64),
+    /// Edges in these layers, and all nodes.
     Layers(NameList),
+    /// Edges in other layers, and all nodes.
     ExcludeLayers(NameList),
+    /// These nodes, and the edges between them.
     Subgraph(NameList),
+    /// The other nodes, and the edges between them.
     ExcludeNodes(NameList),
+    /// Edges whose value of the key compares so with the given one, and all nodes.
     EdgesWhere(Name, Cmp, Value),
+    /// Nodes whose value of the key compares so with the given one, and the edges between them.
     NodesWhere(Name, Cmp, Value),
+    /// Edges whose last event is an addition, and all nodes.
     Valid,
+    /// Nodes that have one of these types, and the edges between them.
     NodeTypes(NameList),
 }
 
@@ -148,6 +177,7 @@ impl std::marker::Model for OpList {
 }
 
 impl OpList {
+    /// An empty list. It takes no memory.
     pub fn new(alloc: Global) -> OpList
         ensures { result ≡ [] }
     {
@@ -156,12 +186,14 @@ impl OpList {
         }
     }
 
+    /// How many items there are.
     pub fn len(&self) -> usize
         ensures { result ≡ length self.now }
     {
         self.items.len()
     }
 
+    /// The item at a place, counted from 0.
     pub fn item(&self, i: usize) -> &Op
         requires { i < length self.now }
         ensures { slice_get self.now i ≡ Some result.now }
@@ -169,6 +201,7 @@ impl OpList {
         &self.items[i]
     }
 
+    /// Adds an item at the end. Where memory is wanting, the list stays as it is.
     pub fn push(&mut self, x: Op) -> Result<(), AllocError>
         ensures ok { OnOk result (self.new ≡ self.old ++ x ∷ []) }
         ensures err { OnErr result (self.new ≡ self.old) }
@@ -181,30 +214,50 @@ impl OpList {
 /// The windows of a query: width and step, or the step alone.
 #[derive(Clone, Copy, Drop)]
 pub enum Each {
+    /// Windows of a width, each a step after the one before it; both from 1 to 2^62.
     Rolling(i64, i64),
+    /// Windows that all begin at the first event, each a step longer; the step from 1 to 2^62.
     Expanding(i64),
 }
 
 /// A question.
 #[derive(Drop)]
 pub enum Ask {
+    /// The present nodes.
     Nodes,
+    /// The present edges.
     Edges,
+    /// The number of events, and the first and last time.
     Events,
+    /// How many neighbours each present node has.
     Degree,
+    /// The nodes to which walks lead from a node, with their distances.
     Hops(Name, Direction),
+    /// The label of each present node's part of the graph: the least name in it.
     Weak,
+    /// The other nodes to which walks lead outward from a node.
     OutComponent(Name),
+    /// The other nodes from which walks lead outward to a node.
     InComponent(Name),
+    /// The nodes of the core of a number from 0 to 1,048,576.
     Core(u32),
+    /// The core number of each present node.
     CoreNumbers,
+    /// When journeys from the seeds, begun at a moment from -2^62 to 2^62 - 1 or later, first reach each node.
     Arrival(i64, NameList),
+    /// The events of a node.
     NodeHistory(Name),
+    /// The events of an edge.
     EdgeHistory(EdgeName),
+    /// The value of a node's key.
     NodeValue(Name, Name),
+    /// The value of an edge's key.
     EdgeValue(EdgeName, Name),
+    /// Whether an edge is alive at a moment from -2^62 to 2^62 - 1.
     EdgeAlive(EdgeName, i64),
+    /// All records of the world.
     Materialise,
+    /// How many updates each node has.
     Updates,
 }
 

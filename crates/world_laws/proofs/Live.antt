@@ -1,16 +1,18 @@
 -- The live events of two lists, one after the other, and what a second window carries.
-use Rattle.std.proofs.Common.{◌≡◌, ℕ, ℤ, Bool, true, false, ◌||◌, List, [], ◌∷◌, ◌++◌, cond, refl, sym, ◌∙◌, ap, inl, inr}
-use Rattle.std.specs.List.{list_any, fold}
+use Rattle.std.proofs.Common.{◌≡◌, ℕ, ℤ, Bool, true, false, ◌||◌, List, [], ◌∷◌, ◌++◌, cond, refl, sym, ◌∙◌, ap, subst, inl, inr}
+use Rattle.std.specs.List.{list_any, fold, AllByRecursion}
 use Rattle.std.proofs.lemmas.Bool.{cases_Bool, cond-true, cond-false}
 use Rattle.std.proofs.lemmas.List.Folds.{list_any-append}
 use Rattle.std.proofs.lemmas.List.Sums.{fold-append}
 use Rattle.graph_model.specs.declared.properties.Value.{Value}
+use Rattle.graph_model.specs.declared.events.Entity.{Entity}
 use Rattle.graph_model.specs.declared.events.Event.{Event}
 use Rattle.graph_model.specs.Props.{overwrite}
 use Rattle.graph_model.specs.Entity.{entity_of, is_deletion, update_of, props_of}
 use Rattle.graph_model.specs.Compare.{live}
 use Rattle.graph_model.specs.Window.{carried, last_props}
-use Rattle.world_laws.proofs.Carried.{subject-update_of, props-update_of, deletes-update_of}
+use Rattle.world_laws.specs.CarriedEvent.{carried_event}
+use Rattle.world_laws.proofs.Carried.{each_live, subject-update_of, props-update_of, deletes-update_of}
 
 -- with no deletion all events are live
 pub live_all : (xs : List Event) → list_any is_deletion xs ≡ false → live xs ≡ xs
@@ -58,3 +60,27 @@ carried_again lo hi xs ys =
     ∙ (ap (λ zs. carried hi (cond (list_any is_deletion ys) (live ys) (zs ++ ys))) (live-carried lo (live xs))
     ∙ ((elim (list_any is_deletion ys) as (λ t. carried hi (cond t (live ys) (carried lo (live xs) ++ ys)) ≡ carried hi (cond t (live ys) (live xs ++ ys))) [ true ↦ refl | false ↦ carried_in_place lo hi (live xs) ys ])
     ∙ ap (carried hi) (sym (live-append xs ys))))
+
+-- an event that is no deletion is live after those before it
+pub live_last : (xs : List Event) (x : Event) → is_deletion x ≡ false → live (xs ++ x ∷ []) ≡ live xs ++ x ∷ []
+live_last xs x h = live-append xs (x ∷ []) ∙ cond-false (list_any is_deletion (x ∷ [])) _ _ (ap (λ t. t || false) h)
+
+-- what is carried for events of one entity is one event of it
+pub carried_one : (e : Entity) (lo : ℤ) (xs : List Event) (x : Event) → AllByRecursion (λ y. entity_of y ≡ e) (xs ++ x ∷ []) → carried lo (xs ++ x ∷ []) ≡ carried_event e lo (xs ++ x ∷ []) ∷ []
+carried_one e lo [] x h = ap (λ b. carried_event b lo (x ∷ []) ∷ []) h.0
+carried_one e lo (y ∷ xs) x h = ap (λ b. carried_event b lo (y ∷ (xs ++ x ∷ [])) ∷ []) h.0
+
+-- after an event that is no deletion, one event is carried, with the last values of the live events
+pub carried_after : (e : Entity) (lo : ℤ) (xs : List Event) (x : Event) → AllByRecursion (λ y. entity_of y ≡ e) (xs ++ x ∷ []) → is_deletion x ≡ false
+    → carried lo (live (xs ++ x ∷ [])) ≡ carried_event e lo (live (xs ++ x ∷ [])) ∷ []
+carried_after e lo xs x h k =
+    let still = live_last xs x k in
+    ap (carried lo) still
+    ∙ (carried_one e lo (live xs) x (subst (AllByRecursion (λ y. entity_of y ≡ e)) still (each_live (λ y. entity_of y ≡ e) (xs ++ x ∷ []) h))
+    ∙ ap (λ ys. carried_event e lo ys ∷ []) (sym still))
+
+-- what stands after the last deletion is live
+pub live_after : (xs : List Event) (x : Event) (ys : List Event) → is_deletion x ≡ true → list_any is_deletion ys ≡ false → live (xs ++ x ∷ ys) ≡ ys
+live_after xs x ys h k =
+    let some : list_any is_deletion (x ∷ ys) ≡ true = ap (λ t. t || list_any is_deletion ys) h in
+    live-append xs (x ∷ ys) ∙ (cond-true (list_any is_deletion (x ∷ ys)) _ _ some ∙ (cond-true (list_any is_deletion (x ∷ ys)) _ _ some ∙ live_all ys k))

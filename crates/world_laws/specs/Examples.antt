@@ -1,12 +1,15 @@
 -- Small worlds and what they show, to see the definitions at work.
 use Rattle.std.specs.Prelude.{ℕ, ℤ, pos, List, [], ◌∷◌, true, map}
-use Rattle.graph_model.specs.declared.properties.Value.TheVariants.{Int, Flag}
+use Rattle.std.specs.List.{repeat}
+use Rattle.graph_model.specs.declared.properties.Value.TheVariants.{Int, Flag, Text}
 use Rattle.graph_model.specs.declared.events.EdgeName.{EdgeName}
 use Rattle.graph_model.specs.declared.events.What.TheVariants.{Node as Update, Add, Delete}
 use Rattle.graph_model.specs.declared.events.Event.{Event}
 use Rattle.graph_model.specs.declared.events.Model.{Model}
 use Rattle.graph_model.specs.declared.events.Model.TheVariants.{Event as Instants, Persistent}
 use Rattle.graph_model.specs.World.{World, base}
+use Rattle.graph_model.specs.declared.queries.Op.TheVariants.{Window, Layers, ExcludeNodes}
+use Rattle.graph_model.specs.Stack.{apply}
 use Rattle.graph_model.specs.Interval.{Interval, earliest, latest}
 use Rattle.graph_model.specs.Answer.{Row, extent_row}
 
@@ -131,3 +134,47 @@ layered = base_of Instants (record { time = pos 1; order = 0; what = Add (record
 -- a loop, and a node of its own
 abbrev pub loop : World
 loop = base_of Instants (added 1 a a ∷ record { time = pos 2; order = 0; what = Update b [] } ∷ [])
+
+-- three edges, of which two came late
+abbrev pub arrived_late : World
+arrived_late = base_of Instants (added 5 a b ∷ added 1 a b ∷ added 3 a b ∷ [])
+
+-- no event, but a type
+abbrev pub type_alone : World
+type_alone = base Instants (record { lo = earliest; hi = latest }) ((z, x) ∷ []) []
+
+-- an edge that is deleted at the moment of its addition, and one that lasts
+abbrev pub deleted_at_once : World
+deleted_at_once = base_of Persistent (added 1 a b ∷ deleted 1 a b ∷ added 2 c d ∷ [])
+
+-- a node and an edge with values
+abbrev pub valued : World
+valued = base_of Persistent (record { time = pos 1; order = 0; what = Update b ((n, Text d) ∷ []) } ∷ added_with 2 a b 3 ∷ [])
+
+-- an edge whose value falls after the end of a window
+abbrev pub falls_late : World
+falls_late = base_of Persistent (added_with 1 a b 9 ∷ added_with 6 a b 1 ∷ [])
+
+-- two edges of one node in a layer, and one in another
+abbrev pub in_two_layers : World
+in_two_layers = base_of Instants (record { time = pos 1; order = 0; what = Add (record { src = a; dst = b; layer = x }) [] } ∷ record { time = pos 2; order = 0; what = Add (record { src = a; dst = b; layer = y }) [] } ∷ record { time = pos 3; order = 0; what = Add (record { src = b; dst = c; layer = x }) [] } ∷ [])
+
+-- a window in a window, without a layer and a node
+abbrev pub nested : World → World
+nested v = apply (Window (pos 0) (pos 9) ∷ Window (pos 2) (pos 9) ∷ Layers (x ∷ []) ∷ ExcludeNodes (a ∷ []) ∷ []) v
+
+-- each of three nodes with the others
+abbrev pub three_edges : World
+three_edges = base_of Instants (added 1 a b ∷ added 2 b c ∷ added 3 a c ∷ [])
+
+-- two edges, one after the other
+abbrev pub path : World
+path = base_of Instants (added 1 a b ∷ added 2 b c ∷ [])
+
+-- a world that spans ten moments
+abbrev pub ten_moments : World
+ten_moments = base Persistent (record { lo = pos 0; hi = pos 10 }) [] (added 1 a b ∷ added 9 a b ∷ [])
+
+-- the same view, as often as a query may have views
+abbrev pub sixty_four : {X : Type 0} → X → List X
+sixty_four op = repeat 64 (op ∷ [])

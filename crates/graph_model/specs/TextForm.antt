@@ -1,0 +1,11 @@
+-- The texts that are names, and those that are values.
+use Rattle.std.specs.Prelude.{ℕ, List, length, Bool, ◌&&◌, nat_lt, nat_le}
+use Rattle.std.specs.Str.{is_utf8}
+
+-- a name is 1 to 256 bytes of UTF-8
+abbrev pub is_name : List ℕ → Bool
+is_name text = is_utf8 text && (nat_lt 0 (length text) && nat_le (length text) 256)
+
+-- the text of a value is at most 4,096 bytes of UTF-8
+abbrev pub is_text : List ℕ → Bool
+is_text text = is_utf8 text && nat_le (length text) 4096

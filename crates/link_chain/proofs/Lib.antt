@@ -1,0 +1,8 @@
+pub mod ChainLaws
+pub mod BucketLaws
+mod ChainWalks
+mod ChainGrowth
+mod ChainResults
+mod BucketRuns
+mod BucketMoves
+mod BucketResults

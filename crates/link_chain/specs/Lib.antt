@@ -1,0 +1,5 @@
+pub mod Indexes
+pub mod Chains
+pub mod HeadsAndLinks
+pub mod Buckets
+pub mod FirstsAndPlaces

@@ -1,0 +1,9 @@
+//! Distinct names, numbered in the order in which they were first seen.
+#![tactic(auto)]
+
+mod table;
+
+pub use table::{InternFault, NameTable};
+
+#[cfg(test)]
+mod tests;

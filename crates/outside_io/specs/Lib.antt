@@ -1,0 +1,4 @@
+pub mod Outside
+pub mod MemoryFiles
+pub mod CallCount
+pub mod InMemory

@@ -1,0 +1,5 @@
+pub mod Digits
+pub mod Texts
+pub mod Signed
+pub mod Marks
+pub mod Fields

@@ -1,0 +1,144 @@
+-- The words of a command are its three options, each with its value.
+use Rattle.std.proofs.Common.{◌≡◌, ◌∙◌, ◌∷◌, [], ◌+◌, ◌*◌, ◌&&◌, ◌==◌, ◌<◌, ℕ, zero, suc, Bool, true, false, List, Option, Some, None, length, refl, sym, ap, arith}
+use Rattle.std.proofs.lemmas.Bool.Decides.{nat_tests}
+use Rattle.std.specs.Prelude.{◌↔◌, codes, slice_get, option_map, unwrap_or, if◌then◌else◌}
+use Rattle.std.specs.Str.{bytes_eq}
+use Rattle.std.proofs.lemmas.Bool.{and_parts, true≢false}
+use Rattle.std.proofs.lemmas.Slice.Eq.{bytes_eq-Decides}
+use Rattle.std.proofs.lemmas.Option.{slice_get_within}
+use Rattle.graph_model.specs.declared.events.Model.{Model}
+use Rattle.graph_model.specs.declared.events.Model.TheVariants.{Event as Instants}
+use Rattle.graph_model.specs.Command.{Files, command, first_value, is_path, model_of, value_of}
+use Rattle.query_run.specs.Commands.{HasOption, NamesFiles}
+
+-- a word further on, two words later
+later : (name value : List ℕ) (words : List (List ℕ)) (option word : List ℕ) → HasOption words option word → HasOption (name ∷ value ∷ words) option word
+later name value words option word at =
+    let even : 2 * (at.0 + 1) ≡ suc (suc (2 * at.0)) = omega arith in
+    let odd : 2 * (at.0 + 1) + 1 ≡ suc (suc (2 * at.0 + 1)) = omega arith in
+    (at.0 + 1, rw even at.1, rw odd at.2)
+
+-- the value that is found stands behind its option
+found : (words : List (List ℕ)) (option word : List ℕ) → first_value option words ≡ Some word → HasOption words option word
+found [] option word h = cc
+found (name ∷ []) option word h = cc
+found (name ∷ value ∷ words) option word h = by (bytes_eq name option) refl (found words option word) h
+  where
+    by : (t : Bool) → bytes_eq name option ≡ t → (first_value option words ≡ Some word → HasOption words option word) → (if t then Some value else first_value option words) ≡ Some word → HasOption (name ∷ value ∷ words) option word
+    by true is more k =
+        let same : name ≡ option = (bytes_eq-Decides name option).0 is in
+        let behind : value ≡ word = cc in
+        (0, ap Some same, ap Some behind)
+    by false is more k = later name value words option word (more k)
+
+-- an option that stands among words is found
+finds : (words : List (List ℕ)) (option word : List ℕ) → HasOption words option word → (value : List ℕ) × (first_value option words ≡ Some value)
+finds [] option word at = absurd (let within : 2 * at.0 < 0 = slice_get_within [] (2 * at.0) option at.1 in omega arith)
+finds (name ∷ []) option word at = absurd (let within : 2 * at.0 + 1 < 1 = slice_get_within (name ∷ []) (2 * at.0 + 1) word at.2 in omega arith)
+finds (name ∷ value ∷ words) option word at = by (bytes_eq name option) refl (finds words option word)
+  where
+    further : (i : ℕ) → slice_get (name ∷ value ∷ words) (2 * i) ≡ Some option → slice_get (name ∷ value ∷ words) (2 * i + 1) ≡ Some word → bytes_eq name option ≡ false → HasOption words option word
+    further zero a b is =
+        let same : name ≡ option = cc in
+        absurd (true≢false (sym ((bytes_eq-Decides name option).1 same) ∙ is))
+    further (suc j) a b is =
+        let even : 2 * suc j ≡ suc (suc (2 * j)) = omega arith in
+        let odd : 2 * suc j + 1 ≡ suc (suc (2 * j + 1)) = omega arith in
+        (j, rw even at a, rw odd at b)
+
+    by : (t : Bool) → bytes_eq name option ≡ t → (HasOption words option word → (value : List ℕ) × (first_value option words ≡ Some value))
+        → (value_found : List ℕ) × ((if t then Some value else first_value option words) ≡ Some value_found)
+    by true is more = (value, refl)
+    by false is more = more (further at.0 at.1 at.2 is)
+
+same_word : (words : List (List ℕ)) (p q : ℕ) (one other : List ℕ) → p ≡ q → slice_get words p ≡ Some one → slice_get words q ≡ Some other → one ≡ other
+same_word words p q one other e a b = let both : Some one ≡ Some other = sym a ∙ ap (slice_get words) e ∙ b in cc
+
+-- among six words with two other options, the value that is found is the one that stands behind
+finds_its : (words : List (List ℕ)) (option second third value x y : List ℕ) → length words ≡ 6 → (option ≡ second → ⊥) → (option ≡ third → ⊥) → (second ≡ third → ⊥)
+    → HasOption words option value → HasOption words second x → HasOption words third y → first_value option words ≡ Some value
+finds_its words option second third value x y six ab ac bc at bt ct =
+    let f = finds words option value at in
+    let p = found words option f.0 f.1 in
+    let pw : 2 * p.0 < length words = slice_get_within words (2 * p.0) option p.1 in
+    let aw : 2 * at.0 < length words = slice_get_within words (2 * at.0) option at.1 in
+    let bw : 2 * bt.0 < length words = slice_get_within words (2 * bt.0) second bt.1 in
+    let cw : 2 * ct.0 < length words = slice_get_within words (2 * ct.0) third ct.1 in
+    let n1 : p.0 ≡ bt.0 → ⊥ = λ e. ab (same_word words (2 * p.0) (2 * bt.0) option second (ap (λ n. 2 * n) e) p.1 bt.1) in
+    let n2 : p.0 ≡ ct.0 → ⊥ = λ e. ac (same_word words (2 * p.0) (2 * ct.0) option third (ap (λ n. 2 * n) e) p.1 ct.1) in
+    let n3 : at.0 ≡ bt.0 → ⊥ = λ e. ab (same_word words (2 * at.0) (2 * bt.0) option second (ap (λ n. 2 * n) e) at.1 bt.1) in
+    let n4 : at.0 ≡ ct.0 → ⊥ = λ e. ac (same_word words (2 * at.0) (2 * ct.0) option third (ap (λ n. 2 * n) e) at.1 ct.1) in
+    let n5 : bt.0 ≡ ct.0 → ⊥ = λ e. bc (same_word words (2 * bt.0) (2 * ct.0) second third (ap (λ n. 2 * n) e) bt.1 ct.1) in
+    let here : p.0 ≡ at.0 = one_place p.0 at.0 bt.0 ct.0 (length words) six pw aw bw cw n1 n2 n3 n4 n5 in
+    f.1 ∙ ap Some (same_word words (2 * p.0 + 1) (2 * at.0 + 1) f.0 value (ap (λ n. 2 * n + 1) here) p.2 at.2)
+  where
+    one_place : (p a b c n : ℕ) → n ≡ 6 → 2 * p < n → 2 * a < n → 2 * b < n → 2 * c < n → (p ≡ b → ⊥) → (p ≡ c → ⊥) → (a ≡ b → ⊥) → (a ≡ c → ⊥) → (b ≡ c → ⊥) → p ≡ a
+    one_place p a b c n six pw aw bw cw n1 n2 n3 n4 n5 = omega arith
+
+differs : (a b : List ℕ) → bytes_eq a b ≡ false → a ≡ b → ⊥
+differs a b apart e = true≢false (sym ((bytes_eq-Decides a b).1 e) ∙ apart)
+
+files_found : (words : List (List ℕ)) (events script : List ℕ) → NamesFiles words events script → command words ≡ Some (Files Instants events script)
+files_found words events script names =
+    let e = finds_its words (codes "--events") (codes "--model") (codes "--script") events (codes "event") script names.six (differs (codes "--events") (codes "--model") refl) (differs (codes "--events") (codes "--script") refl) (differs (codes "--model") (codes "--script") refl) names.events_file names.model names.script_file in
+    let s = finds_its words (codes "--script") (codes "--model") (codes "--events") script (codes "event") events names.six (differs (codes "--script") (codes "--model") refl) (differs (codes "--script") (codes "--events") refl) (differs (codes "--model") (codes "--events") refl) names.script_file names.model names.events_file in
+    let m = finds_its words (codes "--model") (codes "--events") (codes "--script") (codes "event") events script names.six (differs (codes "--model") (codes "--events") refl) (differs (codes "--model") (codes "--script") refl) (differs (codes "--events") (codes "--script") refl) names.model names.events_file names.script_file in
+    rw (names.six, e, s, m, names.events_path, names.script_path) refl
+
+-- a value that is not empty stands behind its option
+stands : (words : List (List ℕ)) (option word : List ℕ) → value_of words option ≡ word → (word ≡ [] → ⊥) → HasOption words option word
+stands words option word is some = by (first_value option words) refl is
+  where
+    by : (o : Option (List ℕ)) → first_value option words ≡ o → unwrap_or o [] ≡ word → HasOption words option word
+    by None e k = absurd (some (sym k))
+    by (Some value) e k = found words option word (e ∙ ap Some k)
+
+path_some : (word : List ℕ) → is_path word ≡ true → word ≡ [] → ⊥
+path_some [] h = λ e. true≢false (sym h)
+path_some (byte ∷ bytes) h = differs (byte ∷ bytes) [] refl
+
+six_is : (n : ℕ) → (n == 6) ≡ true → n ≡ 6
+six_is n h = grind (arith, nat_tests)
+
+model_is : (word : List ℕ) (model : Model) → model_of word ≡ Some model → word ≡ codes "event"
+model_is word model h = by (bytes_eq word (codes "event")) refl h
+  where
+    by : (t : Bool) → bytes_eq word (codes "event") ≡ t → (if t then Some Instants else None) ≡ Some model → word ≡ codes "event"
+    by true is k = (bytes_eq-Decides word (codes "event")).0 is
+    by false is k = cc
+
+files_named : (words : List (List ℕ)) (events script : List ℕ) → command words ≡ Some (Files Instants events script) → NamesFiles words events script
+files_named words events script h = by ((length words == 6) && (is_path e && is_path s)) refl (model_of m) refl h
+  where
+    e : List ℕ
+    e = value_of words (codes "--events")
+
+    s : List ℕ
+    s = value_of words (codes "--script")
+
+    m : List ℕ
+    m = value_of words (codes "--model")
+
+    by : (t : Bool) → ((length words == 6) && (is_path (value_of words (codes "--events")) && is_path (value_of words (codes "--script")))) ≡ t → (o : Option Model) → model_of (value_of words (codes "--model")) ≡ o
+        → (if t then option_map (λ model. Files model (value_of words (codes "--events")) (value_of words (codes "--script"))) o else None) ≡ Some (Files Instants events script) → NamesFiles words events script
+    by false test o of k = cc
+    by true test None of k = cc
+    by true test (Some model) of k =
+        let first = and_parts (length words == 6) (is_path (value_of words (codes "--events")) && is_path (value_of words (codes "--script"))) test in
+        let paths = and_parts (is_path (value_of words (codes "--events"))) (is_path (value_of words (codes "--script"))) first.1 in
+        let same_events : value_of words (codes "--events") ≡ events = cc in
+        let same_script : value_of words (codes "--script") ≡ script = cc in
+        let event = model_is (value_of words (codes "--model")) model of in
+        let events_path : is_path events ≡ true = rw same_events at paths.0 in
+        let script_path : is_path script ≡ true = rw same_script at paths.1 in
+        record {
+          six = six_is (length words) first.0;
+          model = stands words (codes "--model") (codes "event") event (differs (codes "event") [] refl);
+          events_file = stands words (codes "--events") events same_events (path_some events events_path);
+          script_file = stands words (codes "--script") script same_script (path_some script script_path);
+          events_path = events_path;
+          script_path = script_path;
+        }
+
+pub command-named : (words : List (List ℕ)) (events script : List ℕ) → (command words ≡ Some (Files Instants events script)) ↔ NamesFiles words events script
+command-named words events script = (files_named words events script, files_found words events script)

@@ -1,0 +1,14 @@
+//! The top call: from the words of a command and the bytes of its files to the text that is written.
+#![tactic(auto)]
+
+mod answer;
+mod degrees;
+mod laws;
+mod lines;
+mod reading;
+mod rows;
+mod top;
+mod words;
+
+pub use laws::{commands_name_their_files, outputs_are_one};
+pub use top::{Status, Which, run};

@@ -1,0 +1,53 @@
+// The words of a command line.
+ghost use Rattle.std.specs.Prelude.{◌≡◌, None, MatchOption, Some, length};
+ghost use Rattle.graph_model.specs.declared.events.Model.TheVariants.{Event as Instants};
+ghost use Rattle.graph_model.specs.Command.{Files, command, is_path, value_of};
+
+use graph_model::Words;
+
+/// The command to answer a script on the events file of an event graph, by the paths of both files.
+#[derive(Clone, Copy)]
+pub struct Command<'w> {
+    pub events: &'w str,
+    pub script: &'w str,
+}
+
+// The word behind an option, or an empty one.
+fn value<'w>(words: &'w Words, option: &str) -> &'w str
+    requires { length words.now ≡ 6 }
+    ensures { result.now ≡ value_of words.now option.now }
+{
+    for i in 0..3 {
+        if words.item(2 * i) == option {
+            return words.item(2 * i + 1);
+        }
+    }
+    ""
+}
+
+fn is_a_path(word: &str) -> bool
+    ensures { result ≡ is_path word.now }
+{
+    match word.as_bytes() {
+        [] => false,
+        [first, ..] => *first != b'-',
+    }
+}
+
+/// The command that the words are.
+pub fn read_words(words: &Words) -> Option<Command<'_>>
+    ensures { MatchOption result (command words.now ≡ None) (λ c. command words.now ≡ Some (Files Instants c.events.now c.script.now)) }
+{
+    if words.len() != 6 {
+        return None;
+    }
+    let events = value(words, "--events");
+    let script = value(words, "--script");
+    if !is_a_path(events) || !is_a_path(script) {
+        return None;
+    }
+    if value(words, "--model") != "event" {
+        return None;
+    }
+    Some(Command { events, script })
+}

@@ -1,0 +1,114 @@
+// Whole runs over memory, on three edges and a question for their degrees.
+ghost use Rattle.std.specs.Prelude.{◌≡◌, ◌<◌};
+
+use graph_model::Words;
+use outside_io::{Calls, FileItem, Files, MemoryInputs, MemorySink};
+use query_run::{Status, Which, run};
+use std::alloc::{AllocError, Global};
+use std::marker::Brand;
+use std::sync::ledger::{Blank, Ledger};
+use std::test::Fail;
+use time_column::Steps;
+
+const EVENTS: &[u8] = b"edge,1,a,b,l\nedge,2,b,c,l\nedge,3,a,c,l\n";
+
+const SCRIPT: &[u8] = b"{\"ask\":[\"degree\"]}\n";
+
+const OUTPUT: &[u8] =
+    b"graph,event,-4611686018427387904,4611686018427387904,3,0\nquery,1,degree,1\nworld,-4611686018427387904,4611686018427387904,3\na,0,2,2\nb,1,1,2\nc,2,0,2\n";
+
+fn words(alloc: Global, events: &str) -> Result<Words, AllocError> {
+    let mut words = Words::new(alloc);
+    for word in ["--script", "s", "--model", "event", "--events", events] {
+        words.push(word)?;
+    }
+    Ok(words)
+}
+
+fn failing(alloc: Global, call: u64) -> Result<Calls, AllocError> {
+    let mut calls = Calls::new(alloc);
+    calls.push(call)?;
+    Ok(calls)
+}
+
+fn files(alloc: Global) -> Result<Files, AllocError> {
+    let mut files = Files::new(alloc);
+    files.push(FileItem::new(alloc, "e", EVENTS)?)?;
+    files.push(FileItem::new(alloc, "s", SCRIPT)?)?;
+    Ok(files)
+}
+
+fn run_once<L: Ledger>(
+    alloc: Global,
+    words: &Words,
+    inputs: &mut MemoryInputs,
+    sink: &mut MemorySink,
+    blank: Blank,
+) -> Status
+    requires name { blank.name ≡ L.name }
+    requires parts { blank.parts ≡ L.parts }
+    requires one { blank.parts ≡ 1 }
+{
+    run(alloc, words, inputs, sink, &mut Steps::<L>::new(blank))
+}
+
+// What a run says and writes, where the inputs give ten bytes at a time, the sink takes sixteen, and call 0 is none.
+fn outcome(
+    alloc: Global,
+    events: &str,
+    read_fails: u64,
+    write_fails: u64,
+) -> Result<(Status, Vec<u8>), AllocError> {
+    let mut inputs = MemoryInputs::new(files(alloc)?, failing(alloc, read_fails)?, 10);
+    let mut sink = MemorySink::new(alloc, failing(alloc, write_fails)?, 16);
+    let status = run_once::<Brand>(
+        alloc,
+        &words(alloc, events)?,
+        &mut inputs,
+        &mut sink,
+        Blank::new(1),
+    );
+    Ok((status, Vec::from_slice(alloc, sink.written())?))
+}
+
+// The events file takes a `begin` and five reads, the script a `begin` and three; the output takes ten writes.
+#[test]
+fn faults_at_each_call(rt: HostRuntime) -> Result<(), Fail> {
+    for (events, read_fails, write_fails, status, written) in [
+        ("e", 0, 0, Status::Done, OUTPUT.len()),
+        ("x", 0, 0, Status::InputFault(Which::Events), 0),
+        ("-e", 0, 0, Status::Usage, 0),
+        ("e", 3, 0, Status::InputFault(Which::Events), 0),
+        ("e", 0, 3, Status::OutputFault, 32),
+    ] {
+        let (said, text) = outcome(rt.alloc(), events, read_fails, write_fails)?;
+        assert_eq!(rt; said, status);
+        assert_eq!(rt; Some(text.as_slice()), OUTPUT.get(..written));
+    }
+    for call in 1u64..12 {
+        let (said, text) = outcome(rt.alloc(), "e", call, 0)?;
+        let status = match call {
+            1..=6 => Status::InputFault(Which::Events),
+            7..=10 => Status::InputFault(Which::Script),
+            _ => Status::Done,
+        };
+        assert_eq!(rt; said, status, "failing input call {call}");
+        assert_eq!(rt; text.is_empty(), call <= 10);
+    }
+    for call in 1usize..12 {
+        let (said, text) = outcome(rt.alloc(), "e", 0, call as u64)?;
+        let status = if call <= 10 {
+            Status::OutputFault
+        } else {
+            Status::Done
+        };
+        assert_eq!(rt; said, status, "failing write {call}");
+        let front = if call <= 10 {
+            16 * (call - 1)
+        } else {
+            OUTPUT.len()
+        };
+        assert_eq!(rt; Some(text.as_slice()), OUTPUT.get(..front));
+    }
+    Ok(())
+}
