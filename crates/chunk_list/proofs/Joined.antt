@@ -186,3 +186,16 @@ found fs ps at i first q x b lt low high in_list f p e =
     let start = ap (λ xs. get_or xs at 0) b in
     let none : i ≡ i - 0 = omega arith in
     e ∙ (ap (λ ys. get_or ys (i - first) x) p ∙ (ap (λ n. get_or (part_at ps at) (i - n) x) (f ∙ start) ∙ (sym (item_at 0 ps at i x lt (omega arith) (omega arith)) ∙ sym (ap (λ n. get_or (joined ps) n x) none))))
+
+-- the first places of parts never fall
+pub starts_rise : {T : Type 0} (s : ℕ) (ps : List (List T)) (i j : ℕ) → i ≤ j → j < length ps → get_or (starts s ps) i 0 ≤ get_or (starts s ps) j 0
+starts_rise s [] i j le lt = absurd (omega arith)
+starts_rise s (p ∷ ps) zero j le lt = starts_from s (p ∷ ps) j lt
+starts_rise s (p ∷ ps) (suc i) zero le lt = absurd (omega arith)
+starts_rise s (p ∷ ps) (suc i) (suc j) le lt = starts_rise (s + length p) ps i j (omega arith) (omega arith)
+
+-- a place in a part is at most the first place of each part after it
+pub starts_after : {T : Type 0} (ps : List (List T)) (at cut j : ℕ) → cut ≤ length (part_at ps at) → at + 1 ≤ j → j < length ps → get_or (starts 0 ps) at 0 + cut ≤ get_or (starts 0 ps) j 0
+starts_after ps at cut j le from lt =
+    let one : at + 1 ≡ suc at = omega arith in
+    omega (arith, starts_next 0 ps at (omega arith), starts_rise 0 ps (suc at) j (omega arith) lt)

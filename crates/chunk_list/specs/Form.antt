@@ -1,5 +1,5 @@
 -- How a list that grows lies in memory.
-use Rattle.std.specs.Prelude.{ℕ, ◌-◌, ◌≤◌, ◌<◌, ◌≡◌, ⊤, List, length, min, vec_len, vec_capacity}
+use Rattle.std.specs.Prelude.{◌-◌, ◌≤◌, ◌<◌, ◌≡◌, ⊤, length, min, vec_len, vec_capacity}
 use Rattle.chunk_list.specs.declared.list.Form.{Form}
 use Rattle.chunk_list.specs.declared.list.Form.TheVariants.{Few, Flat, Long}
 use Rattle.chunk_list.specs.Spaced.{Spaced}

@@ -1,3 +1,4 @@
 pub mod Spaced
 pub mod Parts
 pub mod Form
+pub mod Groups

@@ -4,5 +4,6 @@
 mod list;
 mod part;
 mod parts;
+mod places;
 
 pub use list::ChunkList;

@@ -5,55 +5,12 @@ ghost use Rattle.std.specs.Vec.{vec_capacity};
 ghost use Rattle.chunk_list.specs.Parts.{joined, part_at, starts};
 
 use crate::part::{MOST, Part};
+use crate::places::Places;
 use std::alloc::{AllocError, Global};
 use std::marker::Model;
 
-/// Adds one to each number.
-fn increment(firsts: &mut [usize])
-    requires fits { (k : ℕ) → k < length firsts.old → slice_index firsts.old k < usize.MAX }
-    ensures moved { (k : ℕ) → k < length firsts.old → slice_index firsts.new k ≡ slice_index firsts.old k + 1 }
-{
-    for first in firsts.iter_mut() {
-        *first += 1;
-    }
-}
-
-/// Adds one to each number from a place on.
-fn shift(firsts: &mut [usize], from: usize)
-    requires from { from ≤ length firsts.old }
-    requires fits { (k : ℕ) → from ≤ k → k < length firsts.old → slice_index firsts.old k < usize.MAX }
-    ensures kept { (k : ℕ) → k < from → slice_index firsts.new k ≡ slice_index firsts.old k }
-    ensures moved { (k : ℕ) → from ≤ k → k < length firsts.old → slice_index firsts.new k ≡ slice_index firsts.old k + 1 }
-{
-    increment(&mut firsts[from..]);
-}
-
-/// The last place whose number is at most `i`, where the first is and the next is greater.
-fn last_at_most(firsts: &[usize], i: usize) -> usize
-    requires some { 0 < length firsts.now }
-    requires first { slice_index firsts.now 0 ≤ i }
-    ensures within { result < length firsts.now }
-    ensures here { slice_index firsts.now result ≤ i }
-    ensures next { result + 1 < length firsts.now → i < slice_index firsts.now (result + 1) }
-{
-    let mut low = 0;
-    let mut high = firsts.len();
-    if firsts[high - 1] <= i {
-        return high - 1;
-    }
-    while low + 1 < high {
-        let mid = low + (high - low) / 2;
-        if firsts[mid] <= i {
-            low = mid;
-        } else {
-            high = mid;
-        }
-    }
-    low
-}
-
 /// Puts an item in a part that is not full.
-fn put_in<T: Copy>(firsts: &mut Vec<usize>, parts: &mut Vec<Part<T>>, at: usize, i: usize, item: T)
+fn put_in<T: Copy>(firsts: &mut Places, parts: &mut Vec<Part<T>>, at: usize, i: usize, item: T)
     requires firsts { firsts.old.items ≡ starts 0 parts.old.items }
     requires part { at < vec_len parts.old }
     requires low { slice_index firsts.old.items at ≤ i }
@@ -63,19 +20,18 @@ fn put_in<T: Copy>(firsts: &mut Vec<usize>, parts: &mut Vec<Part<T>>, at: usize,
     ensures firsts { firsts.new.items ≡ starts 0 parts.new.items }
     ensures items { joined parts.new.items ≡ insert (joined parts.old.items) i item }
     ensures len { vec_len parts.new ≡ vec_len parts.old }
-    ensures firsts_len { vec_len firsts.new ≡ vec_len firsts.old }
-    ensures firsts_capacity { vec_capacity firsts.new ≡ vec_capacity firsts.old }
+    ensures firsts_spare { firsts.new.spare ≡ firsts.old.spare }
     ensures parts_capacity { vec_capacity parts.new ≡ vec_capacity parts.old }
 {
-    let offset = i - firsts[at];
+    let offset = i - firsts.get(at);
     let part = &mut parts[at];
     part.put(offset, item);
-    shift(firsts.as_mut_slice(), at + 1);
+    firsts.shift(at + 1);
 }
 
 /// Splits a part, whose upper items go to a fresh one.
 fn split<T: Copy>(
-    firsts: &mut Vec<usize>,
+    firsts: &mut Places,
     parts: &mut Vec<Part<T>>,
     mut fresh: Part<T>,
     at: usize,
@@ -85,7 +41,7 @@ fn split<T: Copy>(
     requires part { at < vec_len parts.old }
     requires cut { cut ≤ length (part_at parts.old.items at) }
     requires fresh { fresh ≡ [] }
-    requires firsts_room { vec_len firsts.old < vec_capacity firsts.old }
+    requires firsts_room { 0 < firsts.old.spare }
     requires parts_room { vec_len parts.old < vec_capacity parts.old }
     requires fits { length (joined parts.old.items) < usize.MAX }
     ensures firsts { firsts.new.items ≡ starts 0 parts.new.items }
@@ -96,17 +52,17 @@ fn split<T: Copy>(
     ensures first { slice_index firsts.new.items at ≡ slice_index firsts.old.items at }
     ensures next { slice_index firsts.new.items (at + 1) ≡ slice_index firsts.old.items at + cut }
 {
-    let first = firsts[at];
+    let first = firsts.get(at);
     let part = &mut parts[at];
     part.split(cut, &mut fresh);
     let _ = parts.insert(at + 1, fresh);
-    let _ = firsts.insert(at + 1, first + cut);
+    firsts.insert(at + 1, first + cut);
 }
 
 /// Puts an item in a part that is full, by splitting it. What comes after the last item goes to a part
 /// of its own, so that a list that grows at its end has full parts.
 fn put_in_full<T: Copy>(
-    firsts: &mut Vec<usize>,
+    firsts: &mut Places,
     parts: &mut Vec<Part<T>>,
     fresh: Part<T>,
     at: usize,
@@ -119,14 +75,14 @@ fn put_in_full<T: Copy>(
     requires high { i ≤ slice_index firsts.old.items at + length (part_at parts.old.items at) }
     requires full { length (part_at parts.old.items at) ≡ MOST }
     requires fresh { fresh ≡ [] }
-    requires firsts_room { vec_len firsts.old < vec_capacity firsts.old }
+    requires firsts_room { 0 < firsts.old.spare }
     requires parts_room { vec_len parts.old < vec_capacity parts.old }
     requires fits { length (joined parts.old.items) < usize.MAX }
     ensures firsts { firsts.new.items ≡ starts 0 parts.new.items }
     ensures items { joined parts.new.items ≡ insert (joined parts.old.items) i item }
     ensures len { vec_len parts.old ≤ vec_len parts.new }
 {
-    let offset = i - firsts[at];
+    let offset = i - firsts.get(at);
     if offset == MOST {
         split(firsts, parts, fresh, at, MOST);
         put_in(firsts, parts, at + 1, i, item);
@@ -143,7 +99,7 @@ fn put_in_full<T: Copy>(
 /// The items in parts, the first place of each part, and a part at hand for the next that is split.
 #[derive(Drop)]
 pub(crate) struct Parts<T: Copy> {
-    firsts: Vec<usize>,
+    firsts: Places,
     parts: Vec<Part<T>>,
     len: usize,
     fresh: Option<Part<T>>,
@@ -162,7 +118,7 @@ impl<T: Copy> Model for Parts<T> {
 
     ghost view = { λ a. record {
       items = joined a.parts.items;
-      spare = min (at_hand a.fresh) (min (18446744073709551615 - a.len) (min (vec_capacity a.firsts - vec_len a.firsts) (vec_capacity a.parts - vec_len a.parts)));
+      spare = min (at_hand a.fresh) (min (18446744073709551615 - a.len) (min a.firsts.spare (vec_capacity a.parts - vec_len a.parts)));
     } };
 
     ghost invariant = { λ a. IsSound a.firsts.items a.parts.items a.len a.fresh };
@@ -175,12 +131,11 @@ impl<T: Copy> Parts<T> {
         ensures items { IfOk result (λ parts. parts.items ≡ items.now) }
         ensures room { IfOk result (λ parts. 0 < parts.spare) }
     {
-        let mut firsts = Vec::with_capacity(alloc, 4)?;
+        let firsts = Places::new(alloc)?;
         let mut parts = Vec::with_capacity(alloc, 4)?;
         let fresh = Some(Part::new(alloc, &[])?);
         let len = items.len();
         parts.push(Part::new(alloc, items)?)?;
-        firsts.push(0)?;
         Ok(Parts {
             firsts,
             parts,
@@ -201,8 +156,8 @@ impl<T: Copy> Parts<T> {
         requires { i < length self.now.items }
         ensures { result ≡ slice_index_or self.now.items i result }
     {
-        let at = last_at_most(self.firsts.as_slice(), i);
-        self.parts[at].get(i - self.firsts[at])
+        let at = self.firsts.last_at_most(i);
+        self.parts[at].get(i - self.firsts.get(at))
     }
 
     /// Makes room for one more item.
@@ -216,7 +171,7 @@ impl<T: Copy> Parts<T> {
         if self.len == usize::MAX {
             return Err(AllocError);
         }
-        self.firsts.reserve(1)?;
+        self.firsts.reserve()?;
         self.parts.reserve(1)?;
         if self.fresh.is_none() {
             self.fresh = Some(Part::new(self.alloc, &[])?);
@@ -231,7 +186,7 @@ impl<T: Copy> Parts<T> {
         ensures items { self.new.items ≡ insert self.old.items i item }
         ensures spare { self.old.spare ≤ self.new.spare + 1 }
     {
-        let at = last_at_most(self.firsts.as_slice(), i);
+        let at = self.firsts.last_at_most(i);
         if self.parts[at].len() < MOST {
             self.len += 1;
             put_in(&mut self.firsts, &mut self.parts, at, i, item);
