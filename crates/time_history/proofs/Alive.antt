@@ -22,6 +22,7 @@ use Rattle.graph_model.specs.Entity.{is_deletion, is_addition, adds, deletes, su
 use Rattle.graph_model.specs.Compare.{live}
 use Rattle.graph_model.specs.Window.{carried, last_props}
 use Rattle.graph_model.specs.Presence.{ends_in_addition, lives_at}
+use Rattle.world_laws.proofs.Carried.{each_live}
 use Rattle.world_laws.proofs.Filters.{filter_all, filter_none, each_weaker}
 use Rattle.world_laws.proofs.Times.{le_test, not_le_test, inside_lo}
 use Rattle.world_laws.proofs.Live.{live-append}
@@ -64,10 +65,6 @@ int_eq-refl a b h = grind (arith, ints)
 
 int_eq-apart : (a b : ℤ) → a ≢ b → int_eq a b ≡ false
 int_eq-apart a b h = grind (arith, ints)
-
-each_live : (P : Event → Type 0) (xs : List Event) → AllByRecursion P xs → AllByRecursion P (live xs)
-each_live P [] h = tt
-each_live P (x ∷ xs) h = cond_both (list_any is_deletion (x ∷ xs)) (live xs) (x ∷ xs) (AllByRecursion P) (λ e. each_live P xs h.1) (λ e. h)
 
 and_false : (b : Bool) → (b && false) ≡ false
 and_false true = refl

@@ -10,6 +10,7 @@ use Rattle.graph_model.specs.declared.events.Entity.TheVariants.{Node, Edge}
 use Rattle.graph_model.specs.declared.events.Event.{Event}
 use Rattle.graph_model.specs.Entity.{entity_of, subject, update_of, is_deletion}
 use Rattle.graph_model.specs.declared.events.Model.TheVariants.{Persistent}
+use Rattle.world_laws.proofs.Carried.{each_live}
 use Rattle.world_laws.proofs.Live.{live-append}
 use Rattle.graph_model.specs.Compare.{live}
 use Rattle.graph_model.specs.Window.{carried, last_props}
@@ -72,10 +73,6 @@ kept_kind (Node name) Delete ps h k = cc
 kept_kind (Edge edge) OfNode ps h k = cc
 kept_kind (Edge edge) Add ps h k = refl
 kept_kind (Edge edge) Delete ps h k = cc
-
-pub each_live : (P : Event → Type 0) (xs : List Event) → AllByRecursion P xs → AllByRecursion P (live xs)
-each_live P [] h = tt
-each_live P (x ∷ xs) h = cond_both (list_any is_deletion (x ∷ xs)) (live xs) (x ∷ xs) (AllByRecursion P) (λ e. each_live P xs h.1) (λ e. h)
 
 and_first : (a b : Bool) → (a && b) ≡ true → a ≡ true
 and_first true b h = refl

@@ -1,4 +1,3 @@
-pub mod Digits
 pub mod Probes
 pub mod ByPlace
 pub mod Placing
@@ -8,11 +7,8 @@ pub mod Segments
 pub mod Parts
 pub mod Clips
 pub mod Alive
-pub mod Final
 pub mod Present
 pub mod Last
-pub mod Names
-pub mod Props
 pub mod Values
 pub mod Next
 pub mod Held

@@ -25,7 +25,8 @@ use Rattle.time_history.specs.Asked.{IsPresent, is_final_at}
 use Rattle.time_history.proofs.Segments.{slice_split, slice_nothing, slice_map, each_in_slice, each_in_map}
 use Rattle.time_history.proofs.Clips.{bare_spelled}
 use Rattle.time_history.proofs.Alive.{alive_instants, carried_alive, told_one, adds-told, any_at}
-use Rattle.time_history.proofs.Final.{final_any, Rising, present_final, present_inside}
+use Rattle.world_laws.proofs.Nested.{TimesRise as EventsRise}
+use Rattle.world_laws.proofs.Final.{final_any, present_final, present_inside}
 
 no_second : (a : Bool) → (a && false) ≡ false
 no_second true = refl
@@ -100,11 +101,11 @@ module _ (edge : EdgeName) (names : ℕ → List ℕ) (us : List Update) (rise :
       or_true true = refl
       or_true false = refl
 
-  rising_slice : (n i to : ℕ) → i + n ≡ to → to ≤ length us → Rising (slice_range (events_told (Edge edge) names us) i to)
-  rising_slice zero i to e le = let same : i ≡ to = omega arith in subst (λ m. Rising (slice_range (events_told (Edge edge) names us) i m)) same (subst Rising (sym (slice_nothing (events_told (Edge edge) names us) i)) tt)
+  rising_slice : (n i to : ℕ) → i + n ≡ to → to ≤ length us → EventsRise (slice_range (events_told (Edge edge) names us) i to)
+  rising_slice zero i to e le = let same : i ≡ to = omega arith in subst (λ m. EventsRise (slice_range (events_told (Edge edge) names us) i m)) same (subst EventsRise (sym (slice_nothing (events_told (Edge edge) names us) i)) tt)
   rising_slice (suc n) i to e le =
       let lt : i < to = omega arith in
-      subst Rising (sym (slice_first i to lt le)) (timed (λ z. (update_at us i).time ≤ℤ z) (i + 1) to le (λ k a b. rise i k (omega arith) (omega arith)), rising_slice n (i + 1) to (omega arith) le)
+      subst EventsRise (sym (slice_first i to lt le)) (timed (λ z. (update_at us i).time ≤ℤ z) (i + 1) to le (λ k a b. rise i k (omega arith) (omega arith)), rising_slice n (i + 1) to (omega arith) le)
 
   module _ (bounds : Interval) (span : Span) (s : IsSpan us span) (fit : Fits (Edge edge) us) (cut : IsCut Persistent bounds us span) where
     rest : List Event
@@ -118,7 +119,7 @@ module _ (edge : EdgeName) (names : ℕ → List ℕ) (us : List Update) (rise :
     inside_all true [] = inside_rest
     inside_all true (x ∷ xs) = let some = cut.some in (inside_test bounds bounds.lo (omega (arith, ints)) some, inside_rest)
 
-    rising_all : (c : Bool) (xs : List Event) → Rising (cond c (carried bounds.lo xs) [] ++ slice_range (events_told (Edge edge) names us) span.from span.to)
+    rising_all : (c : Bool) (xs : List Event) → EventsRise (cond c (carried bounds.lo xs) [] ++ slice_range (events_told (Edge edge) names us) span.from span.to)
     rising_all false xs = let order = s.order in rising_slice (span.to - span.from) span.from span.to (omega arith) s.end
     rising_all true [] = let order = s.order in rising_slice (span.to - span.from) span.from span.to (omega arith) s.end
     rising_all true (x ∷ xs) = let order = s.order in (timed (λ t. bounds.lo ≤ℤ t) span.from span.to s.end cut.begun, rising_slice (span.to - span.from) span.from span.to (omega arith) s.end)

@@ -1,7 +1,7 @@
 -- The value of a key in a span.
-use Rattle.std.proofs.Common.{◌≡◌, ℕ, ◌+◌, ◌-◌, ◌<◌, ◌≤◌, ◌==◌, ℤ, Bool, true, false, ◌||◌, List, [], ◌∷◌, ◌++◌, Option, Some, None, option_map, cond, map, length, take, slice_range, refl, sym, ◌∙◌, ap, subst, arith}
+use Rattle.std.proofs.Common.{◌≡◌, ℕ, ◌+◌, ◌-◌, ◌<◌, ◌≤◌, ◌==◌, ℤ, Bool, true, false, ◌||◌, List, [], ◌∷◌, ◌++◌, Option, Some, None, option_map, cond, map, length, take, slice_range, refl, sym, ◌∙◌, ap, subst, inl, inr, arith}
 use Rattle.std.specs.List.{find, list_any, filter_map, cons_option, last_or, AllByRecursion}
-use Rattle.std.proofs.lemmas.Bool.{cond-true, cond-false}
+use Rattle.std.proofs.lemmas.Bool.{cases_Bool, cond-true, cond-false}
 use Rattle.std.proofs.lemmas.Bool.Decides.{nat_tests}
 use Rattle.std.proofs.lemmas.List.Elements.{recursion_from_All, filter_map-append}
 use Rattle.graph_model.specs.declared.properties.Value.{Value}
@@ -13,7 +13,9 @@ use Rattle.graph_model.specs.Entity.{is_deletion, entity_of, update_of, props_of
 use Rattle.graph_model.specs.Props.{prop_value}
 use Rattle.graph_model.specs.Compare.{live, last_value, value_of}
 use Rattle.graph_model.specs.Window.{carried, last_props}
-use Rattle.world_laws.proofs.Carried.{props-update_of}
+use Rattle.world_laws.proofs.Filters.{each_weaker}
+use Rattle.world_laws.proofs.Order.{same_name-refl, same_name-exact}
+use Rattle.world_laws.proofs.Distinct.{Distinct, Distinct-put_prop, any-put_prop, value-put_prop, last_or-append, value_of-carried}
 use Rattle.world_laws.proofs.Live.{live-append, live-carried, live_all}
 use Rattle.time_history.specs.declared.updates.Kind.{Kind}
 use Rattle.time_history.specs.declared.updates.Kind.TheVariants.{Node as OfNode, Add, Delete}
@@ -21,23 +23,23 @@ use Rattle.time_history.specs.declared.updates.Update.{Update}
 use Rattle.time_history.specs.declared.span.Span.{Span}
 use Rattle.time_history.specs.KeyValues.{KeysRise, value_at_key}
 use Rattle.time_history.specs.Kinds.{is_delete}
-use Rattle.time_history.specs.Updates.{update_at, no_update}
+use Rattle.time_history.specs.Updates.{update_at, no_update, ValuesRise}
 use Rattle.time_history.specs.Told.{event_told, events_told, what_told, named, Fits}
 use Rattle.time_history.specs.Spans.{IsSpan, spelled}
 use Rattle.time_history.specs.Asked.{AreNamed, IsValueIn, IsValue}
 use Rattle.time_history.proofs.Segments.{slice_split, take_split, slice_map, each_in_slice, each_in_map}
-use Rattle.time_history.proofs.Names.{same_name-refl, same_name-other}
-use Rattle.time_history.proofs.Props.{Distinct, Distinct-put_prop, any-put_prop, value-put_prop, value-last_props, first_some, step}
 use Rattle.time_history.proofs.Clips.{deletes-told}
 use Rattle.time_history.proofs.Alive.{slice_one, none_any}
-use Rattle.time_history.proofs.Last.{each_live}
 
 value_at_key-more : (key : ℕ) (p : ℕ × Value) (ps : List (ℕ × Value)) → value_at_key key (p ∷ ps) ≡ cond (p.0 == key) (Some p.1) (value_at_key key ps)
 value_at_key-more key p ps = elim (p.0 == key) as (λ t. option_map (λ (q : ℕ × Value). q.1) (cond t (Some p) (find (λ (q : ℕ × Value). q.0 == key) ps)) ≡ cond t (Some p.1) (value_at_key key ps)) [ true ↦ refl | false ↦ refl ]
 
-each_weaker : {X : Type 0} (P Q : X → Type 0) → ((x : X) → P x → Q x) → (xs : List X) → AllByRecursion P xs → AllByRecursion Q xs
-each_weaker P Q f [] h = tt
-each_weaker P Q f (x ∷ xs) h = (f x h.0, each_weaker P Q f xs h.1)
+-- names that differ are not the same
+same_name-other : (a b : List ℕ) → (a ≡ b → ⊥) → same_name a b ≡ false
+same_name-other a b h = elim (cases_Bool (same_name a b)) [
+  | inl t ↦ absurd (h (same_name-exact a b t))
+  | inr f ↦ f
+]
 
 module _ (names : ℕ → List ℕ) (n : ℕ) (apart : (i j : ℕ) → i < n → j < n → names i ≡ names j → i ≡ j) where
   -- a key that is not there has a name that is not there
@@ -85,37 +87,7 @@ filter_map_none : {X Y : Type 0} (f : X → Option Y) (xs : List X) → AllByRec
 filter_map_none f [] h = refl
 filter_map_none f (x ∷ xs) h = ap (λ o. cons_option o (filter_map f xs)) h.0 ∙ filter_map_none f xs h.1
 
-last_or-append : {A : Type 0} (o : Option A) (xs ys : List A) → last_or o (xs ++ ys) ≡ last_or (last_or o xs) ys
-last_or-append o [] ys = refl
-last_or-append o (x ∷ xs) ys = last_or-append (Some x) xs ys
-
--- the one event that stands for live events has their values
-value_carried : (key : List ℕ) (lo : ℤ) (xs ys : List Event) → AllByRecursion (λ x. Distinct (props_of x)) xs → last_value key (carried lo xs ++ ys) ≡ last_value key (xs ++ ys)
-value_carried key lo [] ys d = refl
-value_carried key lo (x ∷ xs) ys d =
-    let v : Event → Option Value = λ z. prop_value key (props_of z) in
-    let whole : prop_value key (what_props (update_of (entity_of x) (last_props (x ∷ xs)))) ≡ last_or None (filter_map v (x ∷ xs)) = ap (prop_value key) (props-update_of (entity_of x) (last_props (x ∷ xs))) ∙ value-last_props key (x ∷ xs) d in
-    ap (λ o. last_or None (cons_option o (filter_map v ys))) whole
-    ∙ (sym (step (last_or None (filter_map v (x ∷ xs))) None (filter_map v ys))
-    ∙ (ap (λ o. last_or o (filter_map v ys)) (with_none (last_or None (filter_map v (x ∷ xs))))
-    ∙ (sym (last_or-append None (filter_map v (x ∷ xs)) (filter_map v ys))
-    ∙ ap (last_or None) (sym (filter_map-append v (x ∷ xs) ys)))))
-  where
-    with_none : (o : Option Value) → first_some o None ≡ o
-    with_none (Some w) = refl
-    with_none None = refl
-
--- carrying changes no value
-value_over_carried : (key : List ℕ) (lo : ℤ) (xs ys : List Event) → AllByRecursion (λ x. Distinct (props_of x)) xs → value_of key (carried lo (live xs) ++ ys) ≡ value_of key (xs ++ ys)
-value_over_carried key lo xs ys d =
-    ap (last_value key) (live-append (carried lo (live xs)) ys ∙ ap (λ zs. cond (list_any is_deletion ys) (live ys) (zs ++ ys)) (live-carried lo (live xs)))
-    ∙ ((elim (list_any is_deletion ys) as (λ t. last_value key (cond t (live ys) (carried lo (live xs) ++ ys)) ≡ last_value key (cond t (live ys) (live xs ++ ys))) [
-      | true ↦ refl
-      | false ↦ value_carried key lo (live xs) ys (each_live (λ x. Distinct (props_of x)) xs d)
-    ])
-    ∙ ap (last_value key) (sym (live-append xs ys)))
-
-module _ (entity : Entity) (names : ℕ → List ℕ) (us : List Update) (n key : ℕ) (fit : Fits entity us) (are : AreNamed names n us) (lt : key < n) where
+module _ (entity : Entity) (names : ℕ → List ℕ) (us : List Update) (n key : ℕ) (fit : Fits entity us) (are : AreNamed names n us) (lt : key < n) (rise : ValuesRise us) where
   v : Event → Option Value
   v x = prop_value (names key) (props_of x)
 
@@ -123,11 +95,11 @@ module _ (entity : Entity) (names : ℕ → List ℕ) (us : List Update) (n key 
   below_at k h = recursion_from_All (λ (p : ℕ × Value). p.0 < n) (update_at us k).props (are.below k no_update h)
 
   distinct_at : (k : ℕ) → k < length us → Distinct (props_of (event_told entity names (update_at us k)))
-  distinct_at k h = distinct_told entity (update_at us k).kind (named names (update_at us k).props) (distinct_named names n are.apart (update_at us k).props (below_at k h) (are.rise k no_update h))
+  distinct_at k h = distinct_told entity (update_at us k).kind (named names (update_at us k).props) (distinct_named names n are.apart (update_at us k).props (below_at k h) (rise k no_update h))
 
   -- what an update that is no deletion says of the key
   value_at : (k : ℕ) → k < length us → is_delete (update_at us k).kind ≡ false → prop_value (names key) (props_of (event_told entity names (update_at us k))) ≡ value_at_key key (update_at us k).props
-  value_at k h kept = ap (prop_value (names key)) (props-told entity (update_at us k).kind (named names (update_at us k).props) kept) ∙ value_named names n are.apart key lt (update_at us k).props (below_at k h) (are.rise k no_update h)
+  value_at k h kept = ap (prop_value (names key)) (props-told entity (update_at us k).kind (named names (update_at us k).props) kept) ∙ value_named names n are.apart key lt (update_at us k).props (below_at k h) (rise k no_update h)
 
   undeleted_at : (k : ℕ) → k < length us → (b : Bool) → is_delete (update_at us k).kind ≡ b → is_deletion (event_told entity names (update_at us k)) ≡ b
   undeleted_at k h b e = deletes-told entity (update_at us k).kind (named names (update_at us k).props) (fit k no_update h) ∙ e
@@ -191,7 +163,7 @@ module _ (entity : Entity) (names : ℕ → List ℕ) (us : List Update) (n key 
       let order = s.order in let end = s.end in
       let all : span.to - 0 ≡ span.to = omega arith in
       sym (ap (λ b. value_of (names key) (cond b (carried lo (live (take span.from events))) [] ++ slice_range events span.from span.to)) c
-      ∙ (value_over_carried (names key) lo (take span.from events) (slice_range events span.from span.to) (distinct_front span.from (omega arith))
+      ∙ (value_of-carried (names key) lo (take span.from events) (slice_range events span.from span.to) (distinct_front span.from (omega arith))
       ∙ ap (value_of (names key)) (sym (take_split events span.from span.to order) ∙ ap (λ k. take k events) (sym all))))
 
   value_from_span : (span : Span) (lo : ℤ) → span.carried ≡ false → value_of (names key) (slice_range (events_told entity names us) span.from span.to) ≡ value_of (names key) (spelled entity names us span lo)
@@ -200,17 +172,17 @@ module _ (entity : Entity) (names : ℕ → List ℕ) (us : List Update) (n key 
 -- the clauses of the search for a value
 pub IsValueIn-deleted : (us : List Update) (start i to key : ℕ) → to ≤ length us → start ≤ i → i < to → ((k : ℕ) → i + 1 ≤ k → k < to → is_delete (update_at us k).kind ≡ false) → ((k : ℕ) → i + 1 ≤ k → k < to → value_at_key key (update_at us k).props ≡ None)
     → is_delete (update_at us i).kind ≡ true → IsValueIn us start to key None
-IsValueIn-deleted us start i to key le from here kept without h entity names n fit are lt = sym (value_deleted entity names us n key fit are lt start i to le from here kept without h)
+IsValueIn-deleted us start i to key le from here kept without h entity names n fit are rise lt = sym (value_deleted entity names us n key fit are lt rise start i to le from here kept without h)
 
 pub IsValueIn-found : (us : List Update) (start i to key : ℕ) (w : Value) → to ≤ length us → start ≤ i → i < to → ((k : ℕ) → i + 1 ≤ k → k < to → is_delete (update_at us k).kind ≡ false) → ((k : ℕ) → i + 1 ≤ k → k < to → value_at_key key (update_at us k).props ≡ None)
     → is_delete (update_at us i).kind ≡ false → value_at_key key (update_at us i).props ≡ Some w → IsValueIn us start to key (Some w)
-IsValueIn-found us start i to key w le from here kept without h e entity names n fit are lt = sym (value_found entity names us n key fit are lt start i to le from here kept without w h e)
+IsValueIn-found us start i to key w le from here kept without h e entity names n fit are rise lt = sym (value_found entity names us n key fit are lt rise start i to le from here kept without w h e)
 
 pub IsValueIn-nowhere : (us : List Update) (start to key : ℕ) → to ≤ length us → ((k : ℕ) → start ≤ k → k < to → is_delete (update_at us k).kind ≡ false) → ((k : ℕ) → start ≤ k → k < to → value_at_key key (update_at us k).props ≡ None) → IsValueIn us start to key None
-IsValueIn-nowhere us start to key le kept without entity names n fit are lt = sym (value_nowhere entity names us n key fit are lt start to le kept without)
+IsValueIn-nowhere us start to key le kept without entity names n fit are rise lt = sym (value_nowhere entity names us n key fit are lt rise start to le kept without)
 
-pub IsValue-carried : (us : List Update) (span : Span) (key : ℕ) (w : Option Value) → IsSpan us span → span.carried ≡ true → IsValueIn us 0 span.to key w → IsValue us span key w
-IsValue-carried us span key w s c h entity names n lo fit are lt = h entity names n fit are lt ∙ value_from_start entity names us n key fit are lt span lo s c
+pub IsValue-carried : (us : List Update) (span : Span) (key : ℕ) (w : Option Value) → IsSpan us span → span.carried ≡ true → ValuesRise us → IsValueIn us 0 span.to key w → IsValue us span key w
+IsValue-carried us span key w s c rise h entity names n lo fit are lt = h entity names n fit are rise lt ∙ value_from_start entity names us n key fit are lt rise span lo s c
 
-pub IsValue-alone : (us : List Update) (span : Span) (key : ℕ) (w : Option Value) → span.carried ≡ false → IsValueIn us span.from span.to key w → IsValue us span key w
-IsValue-alone us span key w c h entity names n lo fit are lt = h entity names n fit are lt ∙ value_from_span entity names us n key fit are lt span lo c
+pub IsValue-alone : (us : List Update) (span : Span) (key : ℕ) (w : Option Value) → span.carried ≡ false → ValuesRise us → IsValueIn us span.from span.to key w → IsValue us span key w
+IsValue-alone us span key w c rise h entity names n lo fit are lt = h entity names n fit are rise lt ∙ value_from_span entity names us n key fit are lt rise span lo c

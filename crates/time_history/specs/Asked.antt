@@ -4,7 +4,6 @@ use Rattle.std.specs.Option.{option_map}
 use Rattle.std.specs.List.{list_any, last_or, All}
 use Rattle.graph_model.specs.declared.properties.Value.{Value}
 use Rattle.graph_model.specs.Compare.{value_of}
-use Rattle.time_history.specs.KeyValues.{KeysRise}
 use Rattle.graph_model.specs.declared.events.EdgeName.{EdgeName}
 use Rattle.graph_model.specs.declared.events.Entity.{Entity}
 use Rattle.graph_model.specs.declared.events.Entity.TheVariants.{Edge}
@@ -19,7 +18,7 @@ use Rattle.time_history.specs.declared.updates.Kind.TheVariants.{Node, Add, Dele
 use Rattle.time_history.specs.declared.updates.Update.{Update}
 use Rattle.time_history.specs.declared.span.Span.{Span}
 use Rattle.time_history.specs.Kinds.{is_delete}
-use Rattle.time_history.specs.Updates.{update_at}
+use Rattle.time_history.specs.Updates.{update_at, ValuesRise}
 use Rattle.time_history.specs.Told.{events_told, Fits}
 use Rattle.time_history.specs.Spans.{spelled}
 
@@ -54,11 +53,10 @@ is_final_at us i to = not (is_delete (update_at us i).kind) && (i + 1 == to || i
 pub record AreNamed (names : ℕ → List ℕ) (n : ℕ) (us : List Update) : Type 0 where
   pub apart : (i j : ℕ) → i < n → j < n → names i ≡ names j → i ≡ j
   pub below : All (λ u. All (λ (p : ℕ × Value). p.0 < n) u.props) us
-  pub rise : All (λ u. KeysRise u.props) us
 
 -- the value of a key among the updates from one place up to another
 abbrev pub IsValueIn : List Update → ℕ → ℕ → ℕ → Option Value → Type 0
-IsValueIn us start to key value = (entity : Entity) (names : ℕ → List ℕ) (n : ℕ) → Fits entity us → AreNamed names n us → key < n
+IsValueIn us start to key value = (entity : Entity) (names : ℕ → List ℕ) (n : ℕ) → Fits entity us → AreNamed names n us → ValuesRise us → key < n
     → value ≡ value_of (names key) (slice_range (events_told entity names us) start to)
 
 -- the value of a key in what a span spells

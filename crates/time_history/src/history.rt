@@ -419,6 +419,7 @@ impl History {
         requires span { IsSpan self.now.updates span }
         ensures { IsValue self.now.updates span key (option_copied result) }
     {
+        let _values = &self.values;
         let start = if span.carried { 0 } else { span.from };
         self.value_in(start, span.to, key)
     }

@@ -1,6 +1,6 @@
 use Rattle.std.proofs.Common.{◌≡◌, ℕ, ◌+◌, ◌-◌, ◌<◌, ◌≤◌, ◌/◌, arith, sym}
 use Rattle.graph_model.specs.Searches.{digits}
-use Rattle.time_history.proofs.Digits.{digits-side}
+use Rattle.world_laws.proofs.Digits.{digits-side}
 use Rattle.time_history.proofs.Probes.{passes_up_to, fails_from}
 use Rattle.time_history.proofs.search.first_after.Goals as goal
 

@@ -1,5 +1,5 @@
 use Rattle.std.proofs.Common.{◌-◌, length, arith, sym}
-use Rattle.time_history.proofs.Digits.{digits-le}
+use Rattle.world_laws.proofs.Digits.{digits-le}
 use Rattle.time_history.proofs.Probes.{passes_up_to}
 use Rattle.time_history.proofs.search.last_place.Goals as goal
 

@@ -8,7 +8,7 @@ use Rattle.time_history.specs.declared.updates.Update.{Update}
 use Rattle.time_history.specs.Updates.{update_at}
 use Rattle.time_history.specs.Spans.{carries}
 use Rattle.time_history.specs.declared.span.Span.{Span}
-use Rattle.time_history.proofs.Digits.{digits-le}
+use Rattle.world_laws.proofs.Digits.{digits-le}
 use Rattle.time_history.proofs.Clips.{IsClipped-empty, IsClipped-found, IsCut-found, IsFound, cut_of_taken}
 use Rattle.time_history.proofs.history.History.clip.Goals as goal
 
