@@ -78,3 +78,45 @@ fn main(rt: HostRuntime) -> ExitCode {
     }
     ExitCode::from(code_of(status))
 }
+
+#[cfg(test)]
+mod tests {
+    use super::{code_of, message_of};
+    use query_run::{Status, Which};
+    use std::test::Fail;
+
+    #[test]
+    fn each_status_ends_with_its_number_and_line(rt: HostRuntime) -> Result<(), Fail> {
+        for (status, code, line) in [
+            (Status::Done, 0, ""),
+            (Status::DoneWithRefusals, 1, ""),
+            (
+                Status::Usage,
+                2,
+                "usage: query_cli --model event|persistent --events PATH --script PATH",
+            ),
+            (Status::Memory, 3, "out of memory"),
+            (
+                Status::InputFault(Which::Events),
+                4,
+                "cannot read the events file",
+            ),
+            (
+                Status::InputFault(Which::Script),
+                4,
+                "cannot read the script",
+            ),
+            (Status::OutputFault, 5, "cannot write the output"),
+            (
+                Status::TooLong(Which::Events),
+                6,
+                "the events file is too long",
+            ),
+            (Status::TooLong(Which::Script), 6, "the script is too long"),
+        ] {
+            assert_eq!(rt; code_of(status), code);
+            assert_eq!(rt; message_of(status).unwrap_or(""), line);
+        }
+        Ok(())
+    }
+}
