@@ -4,7 +4,7 @@ use Rattle.std.specs.Prelude.{int_le}
 use Rattle.std.specs.Option.{option_map_or}
 use Rattle.std.specs.List.{AllByRecursion, filter, list_any, last_or}
 use Rattle.std.specs.Ordering.{int_eq}
-use Rattle.std.proofs.lemmas.Bool.{cond_both, cond-false, true≢false}
+use Rattle.std.proofs.lemmas.Bool.{cond-false, true≢false}
 use Rattle.std.proofs.lemmas.Bool.Decides.{nat_tests}
 use Rattle.std.proofs.lemmas.Int.{ints}
 use Rattle.std.proofs.lemmas.List.{take-map, take_more, drop_more, get_or-map, length-map}
@@ -36,7 +36,7 @@ use Rattle.time_history.specs.Told.{event_told, events_told, what_told, named, F
 use Rattle.time_history.specs.Asked.{HappensAt, IsAliveAt}
 use Rattle.time_history.specs.Spans.{carries, IsSpan, IsTaken, IsAllowed, spelled}
 use Rattle.time_history.proofs.Segments.{slice_split, slice_nothing, slice_map, each_in_slice, each_in_map}
-use Rattle.time_history.proofs.Parts.{carried_times}
+use Rattle.world_laws.proofs.Nested.{carried_times}
 
 -- an update of an edge is an addition where it is no deletion
 pub adds-told : (edge : EdgeName) (kind : Kind) (ps : List (List ℕ × Value)) → adds (what_told (Edge edge) kind ps) ≡ not (is_delete kind)

@@ -1,5 +1,5 @@
 -- A window of what a span spells, by the parts of the span.
-use Rattle.std.proofs.Common.{◌≡◌, ℤ, ◌≤ℤ◌, ◌<ℤ◌, Bool, true, false, ◌&&◌, List, [], ◌∷◌, ◌++◌, refl, sym, ◌∙◌, ap, subst, arith, inl, inr, append-nil}
+use Rattle.std.proofs.Common.{◌≡◌, ◌≤ℤ◌, ◌<ℤ◌, Bool, true, false, ◌&&◌, List, [], ◌∷◌, ◌++◌, refl, sym, ◌∙◌, ap, subst, arith, inl, inr, append-nil}
 use Rattle.std.specs.Prelude.{int_lt, int_le}
 use Rattle.std.specs.List.{filter, AllByRecursion}
 use Rattle.std.proofs.lemmas.Int.{ints}
@@ -13,10 +13,7 @@ use Rattle.graph_model.specs.Window.{carried, is_early, is_within, clip_list}
 use Rattle.world_laws.proofs.Filters.{filter_all, filter_none, each_weaker}
 use Rattle.world_laws.proofs.Times.{le_from_test, lt_from_test, gt_from_test, ge_from_test, lt_test, not_lt_test, not_le_test, inside_test}
 use Rattle.world_laws.proofs.Live.{carried_again}
-
-pub carried_times : (lo : ℤ) (xs : List Event) → AllByRecursion (λ x. x.time ≡ lo) (carried lo xs)
-carried_times lo [] = tt
-carried_times lo (x ∷ xs) = (refl, tt)
+use Rattle.world_laws.proofs.Nested.{carried_times}
 
 -- a filter of parts, one after another
 filter_four : (p : Event → Bool) (cs js is ks : List Event) → filter p (cs ++ (js ++ (is ++ ks))) ≡ filter p cs ++ (filter p js ++ (filter p is ++ filter p ks))

@@ -1,5 +1,5 @@
 -- Updates with one more, which was placed among them.
-use Rattle.std.proofs.Common.{◌≡◌, suc, ℕ, ◌+◌, List, [], ◌∷◌, length, cond, refl, ◌∙◌, arith}
+use Rattle.std.proofs.Common.{◌≡◌, ◌+◌, List, [], ◌∷◌, length, refl, arith}
 use Rattle.std.specs.List.{All, AllByRecursion}
 use Rattle.std.specs.Ordering.{is_lt}
 use Rattle.std.proofs.lemmas.Bool.{cond_both}

@@ -9,14 +9,13 @@ use Rattle.graph_model.specs.declared.events.Entity.{Entity}
 use Rattle.graph_model.specs.declared.events.Entity.TheVariants.{Node, Edge}
 use Rattle.graph_model.specs.declared.events.Event.{Event}
 use Rattle.graph_model.specs.Names.{same_name}
-use Rattle.graph_model.specs.Entity.{is_deletion, entity_of, update_of, props_of, what_props}
+use Rattle.graph_model.specs.Entity.{is_deletion, props_of, what_props}
 use Rattle.graph_model.specs.Props.{prop_value}
 use Rattle.graph_model.specs.Compare.{live, last_value, value_of}
-use Rattle.graph_model.specs.Window.{carried, last_props}
-use Rattle.world_laws.proofs.Filters.{each_weaker}
+use Rattle.graph_model.specs.Window.{carried}
 use Rattle.world_laws.proofs.Order.{same_name-refl, same_name-exact}
 use Rattle.world_laws.proofs.Distinct.{Distinct, Distinct-put_prop, any-put_prop, value-put_prop, last_or-append, value_of-carried}
-use Rattle.world_laws.proofs.Live.{live-append, live-carried, live_all}
+use Rattle.world_laws.proofs.Live.{live-append, live_all}
 use Rattle.time_history.specs.declared.updates.Kind.{Kind}
 use Rattle.time_history.specs.declared.updates.Kind.TheVariants.{Node as OfNode, Add, Delete}
 use Rattle.time_history.specs.declared.updates.Update.{Update}

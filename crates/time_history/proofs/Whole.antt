@@ -1,11 +1,10 @@
 -- The whole of a history, as a span.
-use Rattle.std.proofs.Common.{◌≡◌, ℕ, ◌<◌, ◌≤◌, ◌≤ℤ◌, ◌<ℤ◌, false, List, length, refl, sym, inr, arith}
+use Rattle.std.proofs.Common.{◌≡◌, ◌<ℤ◌, false, List, length, refl, sym, inr, arith}
 use Rattle.graph_model.specs.Interval.{Interval}
 use Rattle.graph_model.specs.declared.events.Model.{Model}
 use Rattle.graph_model.specs.declared.events.Model.TheVariants.{Event as Instants, Persistent}
 use Rattle.time_history.specs.declared.updates.Update.{Update}
-use Rattle.time_history.specs.declared.span.Span.{Span}
-use Rattle.time_history.specs.Updates.{update_at, no_update}
+use Rattle.time_history.specs.Updates.{no_update}
 use Rattle.time_history.specs.Spans.{carries, IsTaken, AreWithin}
 
 nothing_before : (model : Model) (us : List Update) → carries model us 0 ≡ false

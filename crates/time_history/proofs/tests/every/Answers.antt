@@ -1,12 +1,11 @@
-use Rattle.std.proofs.Common.{◌≡◌, ◌+◌, ◌<◌, ◌≤◌, ◌≤ℤ◌, ◌<ℤ◌, ℕ, ℤ, List, length, ap, arith, subst, sym, refl, false, ◌∙◌, to_z, w64}
+use Rattle.std.proofs.Common.{◌≡◌, ◌+◌, ◌<◌, ◌≤◌, ◌≤ℤ◌, ◌<ℤ◌, ℕ, List, length, ap, arith, subst, sym, false, ◌∙◌, to_z, w64}
 use Rattle.std.specs.List.{All}
 use Rattle.std.proofs.lemmas.Int.{ints}
 use Rattle.std.proofs.lemmas.Bool.Decides.{nat_tests}
 use Rattle.graph_model.specs.Interval.{earliest, latest}
 use Rattle.time_history.specs.declared.updates.Update.{Update}
-use Rattle.time_history.specs.Kinds.{is_node, is_delete, NoDeletion}
+use Rattle.time_history.specs.Kinds.{is_node, is_delete}
 use Rattle.time_history.specs.Updates.{placed}
-use Rattle.time_history.specs.Spans.{AreWithin}
 use Rattle.time_history.proofs.Placed.{length-placed, All-placed}
 use Rattle.time_history.proofs.tests.every.Goals as goal
 
