@@ -13,7 +13,8 @@ use Rattle.graph_model.specs.Stack.{apply}
 use Rattle.graph_model.specs.Windows.{windows}
 use Rattle.graph_model.specs.Answer.{Row, row_fields, IsAnswer}
 use Rattle.graph_model.specs.RowText.{rows_text}
-use Rattle.graph_model.specs.Reading.{RecordRefusal, record_refusal_name, reading, world_of}
+use Rattle.graph_model.specs.Reading.{reading, world_of}
+use Rattle.graph_model.specs.Refusal.{RecordRefusal, record_refusal_name}
 use Rattle.graph_model.specs.Script.{QueryRefusal, query_refusal_name, lines_of, is_blank, query_of}
 
 abbrev pub model_word : Model → List ℕ

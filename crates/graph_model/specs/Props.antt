@@ -1,7 +1,8 @@
 -- Properties: pairs of a key and a value, rising by key.
-use Rattle.std.specs.Prelude.{ℕ, List, [], ◌∷◌, Bool, ◌≡◌, Option, if◌then◌else◌}
+use Rattle.std.specs.Prelude.{ℕ, List, [], ◌∷◌, Bool, true, not, ◌&&◌, ◌≡◌, Option, if◌then◌else◌}
 use Rattle.std.specs.Option.{option_map}
 use Rattle.std.specs.List.{find, list_any, AllByRecursion}
+use Rattle.std.specs.declared.cmp.Ordering.{Ordering}
 use Rattle.std.specs.declared.cmp.Ordering.TheVariants.{Less}
 use Rattle.std.specs.Ordering.{is_lt}
 use Rattle.graph_model.specs.declared.properties.Value.{Value}
@@ -29,3 +30,12 @@ put_prop p (q ∷ qs) = if is_lt (name_cmp p.0 q.0) then (p ∷ q ∷ qs) else (
 abbrev pub overwrite : List (List ℕ × Value) → List (List ℕ × Value) → List (List ℕ × Value)
 overwrite [] new = new
 overwrite (p ∷ old) new = if has_key p.0 (overwrite old new) then overwrite old new else put_prop p (overwrite old new)
+
+-- properties, ordered by key
+abbrev pub key_cmp : List ℕ × Value → List ℕ × Value → Ordering
+key_cmp p q = name_cmp p.0 q.0
+
+-- no two properties have one key
+abbrev pub keys_differ : List (List ℕ × Value) → Bool
+keys_differ [] = true
+keys_differ (p ∷ ps) = not (has_key p.0 ps) && keys_differ ps

@@ -1,34 +1,19 @@
 -- What an events file says, record by record.
-use Rattle.std.specs.Prelude.{ℕ, ℤ, Bool, ◌+◌, ◌==◌, ◌&&◌, List, [], ◌∷◌, ◌++◌, length, codes, Option, Some, None, option_map, unwrap_or, if◌then◌else◌}
-use Rattle.std.specs.Str.{bytes_eq, is_utf8}
+use Rattle.std.specs.Prelude.{ℕ, Bool, ◌+◌, ◌==◌, List, [], ◌∷◌, ◌++◌, Option, Some, None, Result, Ok, Err}
 use Rattle.csv.specs.Reading.{default_config, records, strip_bom}
-use Rattle.csv.specs.Records.{field_at}
-use Rattle.graph_model.specs.declared.events.EdgeName.{EdgeName}
-use Rattle.graph_model.specs.declared.events.What.TheVariants.{Add}
 use Rattle.graph_model.specs.declared.events.Event.{Event}
 use Rattle.graph_model.specs.declared.events.Model.{Model}
+use Rattle.graph_model.specs.Accepting.{event_refusal, type_refusal}
 use Rattle.graph_model.specs.Interval.{Interval, earliest, latest}
+use Rattle.graph_model.specs.Refusal.{RecordRefusal}
+use Rattle.graph_model.specs.Said.{Said, SaysBounds, SaysType, SaysEvent, row_of}
 use Rattle.graph_model.specs.World.{World, base, put_type}
-use Rattle.graph_model.specs.Range.{is_moment}
-use Rattle.graph_model.specs.TextForm.{is_name}
-use Rattle.graph_model.specs.WholeNumber.{whole_of}
 
 -- the records of a file, each a list of fields: a byte order mark at its beginning is passed over
 abbrev pub records_of : List ℕ → List (List (List ℕ))
 records_of bytes = records default_config (strip_bom bytes)
 
--- the field at a place, or an empty one where there is none
-abbrev pub field_of : List (List ℕ) → ℕ → List ℕ
-field_of fields i = unwrap_or (field_at fields i) []
-
--- why a record is refused
-pub data RecordRefusal : Type 0 where
-  Unbuilt : RecordRefusal
-
-abbrev pub record_refusal_name : RecordRefusal → List ℕ
-record_refusal_name Unbuilt = codes "unbuilt"
-
--- what a record says: bounds, the type of a node, an event, or nothing, as it is refused
+-- what a record is judged to do: it sets the bounds, gives a node a type, is an event, or is refused
 pub data Judged : Type 0 where
   Spans : (bounds : Interval) → Judged
   GivesType : (node name : List ℕ) → Judged
@@ -42,35 +27,21 @@ pub record Reading : Type 0 where
   pub types : List (List ℕ × List ℕ)
   pub refused : List (ℕ × RecordRefusal)
 
--- a number, where it is a moment that an event may have
-abbrev pub moment_in : Option ℤ → Option ℤ
-moment_in None = None
-moment_in (Some t) = if is_moment t then Some t else None
+-- what is so, unless something refuses it
+abbrev pub unless : Option RecordRefusal → Judged → Judged
+unless None judged = judged
+unless (Some refusal) judged = Refused refusal
 
--- the moment that a field says
-abbrev pub moment_of : List ℕ → Option ℤ
-moment_of field = moment_in (whole_of field)
+-- what is judged of what a record's fields say
+abbrev pub judge_said : Model → Reading → Result Said RecordRefusal → Judged
+judge_said model before (Err refusal) = Refused refusal
+judge_said model before (Ok (SaysBounds bounds)) = Spans bounds
+judge_said model before (Ok (SaysType node name)) = unless (type_refusal before.accepted before.types node name) (GivesType node name)
+judge_said model before (Ok (SaysEvent event)) = unless (event_refusal model before.accepted before.types event) (Happens event)
 
--- the edge that a record names
-abbrev pub edge_of : List (List ℕ) → EdgeName
-edge_of fields = record { src = field_of fields 2; dst = field_of fields 3; layer = field_of fields 4 }
-
--- a plain edge: five fields, namely the word `edge`, a text, and three names
-abbrev pub is_edge : List (List ℕ) → Bool
-is_edge fields = (length fields == 5) && (bytes_eq (field_of fields 0) (codes "edge") && (is_utf8 (field_of fields 1)
-    && (is_name (field_of fields 2) && (is_name (field_of fields 3) && is_name (field_of fields 4)))))
-
--- the event that a plain edge with a moment says
-abbrev pub event_of : List (List ℕ) → Option Event
-event_of fields = if is_edge fields then option_map (λ t. record { time = t; order = 0; what = Add (edge_of fields) [] }) (moment_of (field_of fields 1)) else None
-
-abbrev pub happens : Option Event → Judged
-happens None = Refused Unbuilt
-happens (Some event) = Happens event
-
--- what a record says after what was read before it
+-- what is judged of a record after what was read before it
 abbrev pub judge : Model → Reading → Bool → List (List ℕ) → Judged
-judge model before first fields = happens (event_of fields)
+judge model before first fields = judge_said model before (row_of first before.bounds fields)
 
 -- what was read, with one record more
 abbrev pub with_record : Reading → ℕ → Judged → Reading

@@ -35,11 +35,28 @@ degree_query = codes "{\"ask\":[\"degree\"]}"
 abbrev pub asks_degrees : List ℕ → Bool
 asks_degrees line = let text = without_spaces line in starts_with nat_eq text degree_query && is_blank (drop (length degree_query) text)
 
--- why a query is refused
+-- why a query is refused, in the order in which it is judged
 pub data QueryRefusal : Type 0 where
+  -- the line is no JSON value
+  Json : QueryRefusal
+  -- it is of no form
+  Shape : QueryRefusal
+  -- a number in it cannot stand in its place
+  Number : QueryRefusal
+  -- it has more than 64 views
+  Depth : QueryRefusal
+  -- it is asked of more than 65,536 windows
+  Windows : QueryRefusal
+  -- it is not answered yet
   Unbuilt : QueryRefusal
 
+-- the word for a cause
 abbrev pub query_refusal_name : QueryRefusal → List ℕ
+query_refusal_name Json = codes "json"
+query_refusal_name Shape = codes "shape"
+query_refusal_name Number = codes "number"
+query_refusal_name Depth = codes "depth"
+query_refusal_name Windows = codes "windows"
 query_refusal_name Unbuilt = codes "unbuilt"
 
 -- the query that a line is, or why it is refused

@@ -5,6 +5,7 @@ mod events;
 mod names;
 mod properties;
 mod queries;
+mod short_text;
 mod time_bounds;
 mod word_list;
 

@@ -114,7 +114,7 @@ more_digits n ds large known =
 decimal_writes : (n : ℕ) → n < 2 ^ 64 → Writes n (decimal n)
 decimal_writes n fits = decimal_by_steps Writes one_digit more_digits n fits
 
-digits_of_decimal : (n : ℕ) → n ≤ 2 ^ 63 → are_digits (decimal n) ≡ true
+pub digits_of_decimal : (n : ℕ) → n ≤ 2 ^ 63 → are_digits (decimal n) ≡ true
 unfolding Writes
 digits_of_decimal n fits =
     let some : 0 < length (decimal n) = decimal_nonempty n (omega arith) in
@@ -122,7 +122,7 @@ digits_of_decimal n fits =
     let all : list_all is_ascii_digit (decimal n) ≡ true = (decimal_writes n (omega arith)).0 in
     rw all (grind (arith, nat_tests))
 
-number_of_decimal : (n : ℕ) → n ≤ 2 ^ 63 → number_of (decimal n) ≡ n
+pub number_of_decimal : (n : ℕ) → n ≤ 2 ^ 63 → number_of (decimal n) ≡ n
 unfolding Writes
 number_of_decimal n fits = (decimal_writes n (omega arith)).1
 
