@@ -92,19 +92,6 @@ rise-insert xs k x some le rise before after i j ij in_list =
     above : (j : ℕ) → k < j → get_or (insert xs k x) j 0 ≡ get_or xs (j - 1) 0
     above j lt = let one : j ≡ j - 1 + 1 = omega arith in ap (λ n. get_or (insert xs k x) n 0) one ∙ get_or-insert_above xs k x 0 (j - 1) (omega arith) le
 
--- numbers that were parted into groups
-pub parted : (ns gs ms : List ℕ) → length ms ≡ length ns → length ns ≤ 64 * length gs → ((g : ℕ) → g < length gs → 64 * g < length ns) → ((g : ℕ) → g < length gs → get_or gs g 0 ≡ get_or ns (64 * g) 0)
-    → ((k : ℕ) → k < length ns → get_or gs (k / 64) 0 + get_or ms k 0 ≡ get_or ns k 0) → ((k : ℕ) → k < length ns → get_or ns k 0 < 2 ^ 64) → AreGrouped gs ms × (sums_of 0 gs ms ≡ ns)
-parted ns gs ms len covered begun first sums fits = (
-  record {
-    covered = omega arith;
-    begun = λ g lt. omega (arith, begun g lt);
-    zero = λ g lt. let same : 64 * g / 64 ≡ g = omega arith in omega (arith, sums (64 * g) (begun g lt), ap (λ i. get_or gs i 0) same, first g lt);
-    fits = λ k lt. omega (arith, sums k (omega arith), fits k (omega arith));
-  },
-  ext_get_or 0 (sums_of 0 gs ms) ns (omega (arith, length-sums_of 0 gs ms)) (λ k lt. let l : k < length ms = omega (arith, length-sums_of 0 gs ms) in sum_at gs ms (sums_of 0 gs ms) k refl l ∙ sums k (omega arith)),
-)
-
 -- the place that a search in groups and then in one group finds
 pub located_here : (gs ns : List ℕ) (g r i : ℕ) → g * 64 ≤ r → r < g * 64 + 64 → get_or gs g 0 ≤ i → get_or ns r 0 ≤ i - get_or gs g 0 → get_or gs (r / 64) 0 + get_or ns r 0 ≤ i
 located_here gs ns g r i low high le here = let same : r / 64 ≡ g = omega arith in omega (arith, ap (λ k. get_or gs k 0) same)
@@ -117,27 +104,31 @@ located_next gs ns g r i to a e low high next after in_list = elim (less_or_not 
 ]
 
 -- one more number is parted from its group
-module _ (gs hs old own : List ℕ) (k m n base : ℕ) (rise : (i j : ℕ) → i ≤ j → j < length old → get_or old i 0 ≤ get_or old j 0) (lt : k < length old) (len : length own ≡ length old)
-    (covered : k ≤ 64 * m) (first : (g : ℕ) → g < m → get_or gs g 0 ≡ get_or old (64 * g) 0) (sums : (j : ℕ) → j < k → get_or gs (j / 64) 0 + get_or own j 0 ≡ get_or old j 0) (left : (j : ℕ) → k ≤ j → get_or own j 0 ≡ get_or old j 0)
+module _ (gs hs old own : List ℕ) (from k m n base : ℕ) (rise : (i j : ℕ) → 64 * from ≤ i → i ≤ j → j < length old → get_or old i 0 ≤ get_or old j 0) (lt : k < length old) (len : length own ≡ length old)
+    (start : 64 * from ≤ k) (covered : k ≤ 64 * m) (first : (g : ℕ) → from ≤ g → g < m → get_or gs g 0 ≡ get_or old (64 * g) 0) (sums : (j : ℕ) → 64 * from ≤ j → j < k → get_or gs (j / 64) 0 + get_or own j 0 ≡ get_or old j 0)
+    (before : (j : ℕ) → j < 64 * from → get_or own j 0 ≡ get_or old j 0) (left : (j : ℕ) → k ≤ j → get_or own j 0 ≡ get_or old j 0)
     (covers : k < 64 * n) (kept : (g : ℕ) → g < m → get_or hs g 0 ≡ get_or gs g 0) (new : (g : ℕ) → m ≤ g → g < n → get_or hs g 0 ≡ get_or own k 0) (place : (g : ℕ) → m ≤ g → g < n → 64 * g ≡ k)
     (base_is : base ≡ get_or hs (k / 64) 0) where
-  pub first_more : (g : ℕ) → g < n → get_or hs g 0 ≡ get_or old (64 * g) 0
-  first_more g l = elim (less_or_not g m) [
-    | inl s ↦ kept g s ∙ first g s
+  pub first_more : (g : ℕ) → from ≤ g → g < n → get_or hs g 0 ≡ get_or old (64 * g) 0
+  first_more g f l = elim (less_or_not g m) [
+    | inl s ↦ kept g s ∙ first g f s
     | inr s ↦ new g s l ∙ (left k (omega arith) ∙ sym (ap (λ i. get_or old i 0) (place g s l)))
   ]
 
   pub left_more : (j : ℕ) → k + 1 ≤ j → get_or (set own k (get_or own k 0 - base)) j 0 ≡ get_or old j 0
   left_more j l = let other : j ≡ k → ⊥ = λ e. omega arith in get_or-set_other own k j (get_or own k 0 - base) 0 other ∙ left j (omega arith)
 
-  pub sums_more : (j : ℕ) → j < k + 1 → get_or hs (j / 64) 0 + get_or (set own k (get_or own k 0 - base)) j 0 ≡ get_or old j 0
-  sums_more j l = elim (less_or_not j k) [
-    | inl s ↦ let other : j ≡ k → ⊥ = λ e. omega arith in omega (arith, kept (j / 64) (omega arith), get_or-set_other own k j (get_or own k 0 - base) 0 other, sums j s)
+  pub before_more : (j : ℕ) → j < 64 * from → get_or (set own k (get_or own k 0 - base)) j 0 ≡ get_or old j 0
+  before_more j l = let other : j ≡ k → ⊥ = λ e. omega arith in get_or-set_other own k j (get_or own k 0 - base) 0 other ∙ before j l
+
+  pub sums_more : (j : ℕ) → 64 * from ≤ j → j < k + 1 → get_or hs (j / 64) 0 + get_or (set own k (get_or own k 0 - base)) j 0 ≡ get_or old j 0
+  sums_more j f l = elim (less_or_not j k) [
+    | inl s ↦ let other : j ≡ k → ⊥ = λ e. omega arith in omega (arith, kept (j / 64) (omega arith), get_or-set_other own k j (get_or own k 0 - base) 0 other, sums j f s)
     | inr s ↦ let same : j ≡ k = omega arith in ap (λ i. get_or hs (i / 64) 0 + get_or (set own k (get_or own k 0 - base)) i 0) same ∙ (here ∙ sym (ap (λ i. get_or old i 0) same))
   ]
     where
       here : get_or hs (k / 64) 0 + get_or (set own k (get_or own k 0 - base)) k 0 ≡ get_or old k 0
-      here = omega (arith, base_is, get_or-set_same own k (get_or own k 0 - base) 0 (omega arith), left k (omega arith), first_more (k / 64) (omega arith), rise (64 * (k / 64)) k (omega arith) lt)
+      here = omega (arith, base_is, get_or-set_same own k (get_or own k 0 - base) 0 (omega arith), left k (omega arith), first_more (k / 64) (omega arith) (omega arith), rise (64 * (k / 64)) k (omega arith) (omega arith) lt)
 
 -- where the groups before one end
 pub end_after : (from n g end len_g len_n : ℕ) → from ≤ 64 * n → g ≡ min n len_g → (g < len_g → end ≡ 64 * g) → (len_g ≤ g → end ≡ len_n) → from ≤ len_n → from ≤ end
@@ -152,10 +143,6 @@ end_within g end gs ns a inside last = elim (less_or_not g (length gs)) [
   | inr m ↦ omega (arith, last m)
 ]
 
--- numbers to which those of their groups were added
-pub all_joined : (gs ns ms xs : List ℕ) → sums_of 0 gs ns ≡ xs → length ms ≡ length ns → ((k : ℕ) → k < length ns → get_or ms k 0 ≡ get_or gs (k / 64) 0 + get_or ns k 0) → ms ≡ xs
-all_joined gs ns ms xs e len h = ext_get_or 0 ms xs (omega (arith, many gs ns xs e)) (λ k lt. h k (omega arith) ∙ sym (sum_at gs ns xs k e (omega arith)))
-
 -- numbers below a bound, with one more
 pub below-insert : (xs : List ℕ) (k x most : ℕ) → k ≤ length xs → ((j : ℕ) → j < length xs → get_or xs j 0 < most) → x < most → (j : ℕ) → j < length (insert xs k x) → get_or (insert xs k x) j 0 < most
 below-insert xs k x most le h small j lt =
@@ -167,3 +154,68 @@ below-insert xs k x most le h small j lt =
         | inr b ↦ let same : j ≡ k = omega arith in omega (arith, ap (λ n. get_or (insert xs k x) n 0) same, get_or-insert_at xs k x 0 le)
       ]
     ]
+
+-- two lists that agree from a place on, each with one more there or later
+agree-insert : (ns xs : List ℕ) (from k x : ℕ) → length ns ≡ length xs → from ≤ k → k ≤ length xs → ((j : ℕ) → from ≤ j → j < length xs → get_or ns j 0 ≡ get_or xs j 0)
+    → (j : ℕ) → from ≤ j → j < length (insert xs k x) → get_or (insert ns k x) j 0 ≡ get_or (insert xs k x) j 0
+agree-insert ns xs from k x len low le same j f lt =
+    let more = length-insert xs k x le in
+    let le_n : k ≤ length ns = omega arith in
+    elim (less_or_not j k) [
+      | inl a ↦ get_or-insert_below ns k x 0 j a le_n ∙ (same j f (omega arith) ∙ sym (get_or-insert_below xs k x 0 j a le))
+      | inr a ↦ elim (less_or_not k j) [
+        | inl b ↦ let one : j ≡ j - 1 + 1 = omega arith in
+            ap (λ n. get_or (insert ns k x) n 0) one ∙ (get_or-insert_above ns k x 0 (j - 1) (omega arith) le_n ∙ (same (j - 1) (omega arith) (omega (arith, more)) ∙ (sym (get_or-insert_above xs k x 0 (j - 1) (omega arith) le) ∙ sym (ap (λ n. get_or (insert xs k x) n 0) one))))
+        | inr b ↦ let here : j ≡ k = omega arith in
+            ap (λ n. get_or (insert ns k x) n 0) here ∙ (get_or-insert_at ns k x 0 le_n ∙ (sym (get_or-insert_at xs k x 0 le) ∙ sym (ap (λ n. get_or (insert xs k x) n 0) here)))
+      ]
+    ]
+
+-- one more number in groups: the numbers from its group on are joined with their groups, and parted again with it among them
+module _ (gs ns xs ms : List ℕ) (k x from : ℕ) (e : sums_of 0 gs ns ≡ xs) (a : AreGrouped gs ns) (le : k ≤ length xs) (from_is : from ≡ k / 64) (len_m : length ms ≡ length ns)
+    (m_kept : (j : ℕ) → j < 64 * from → get_or ms j 0 ≡ get_or ns j 0) (m_sums : (j : ℕ) → 64 * from ≤ j → j < length ns → get_or ms j 0 ≡ get_or gs (j / 64) 0 + get_or ns j 0) where
+  same : length xs ≡ length ns
+  same = many gs ns xs e
+
+  agree : (j : ℕ) → 64 * from ≤ j → j < length xs → get_or ms j 0 ≡ get_or xs j 0
+  agree j f lt = m_sums j f (omega (arith, same)) ∙ sym (sum_at gs ns xs j e (omega (arith, same)))
+
+  pub put_length : length (insert ms k x) ≡ length ns + 1
+  put_length = length-insert ms k x (omega (arith, same)) ∙ ap (λ n. n + 1) len_m
+
+  put_at : (j : ℕ) → 64 * from ≤ j → j < length (insert ms k x) → get_or (insert ms k x) j 0 ≡ get_or (insert xs k x) j 0
+  put_at j f lt = agree-insert ms xs (64 * from) k x (omega (arith, same)) (omega arith) le agree j f (omega (arith, length-insert xs k x le, put_length, same))
+
+  pub put_rise : 0 < k → ((i j : ℕ) → i ≤ j → j < length xs → get_or xs i 0 ≤ get_or xs j 0) → get_or xs (k - 1) 0 ≤ x → ((j : ℕ) → k ≤ j → j < length xs → x ≤ get_or xs j 0)
+      → (i j : ℕ) → 64 * from ≤ i → i ≤ j → j < length (insert ms k x) → get_or (insert ms k x) i 0 ≤ get_or (insert ms k x) j 0
+  put_rise some rise before after i j f ij lt = omega (arith, put_at i f (omega arith), put_at j (omega arith) lt, rise-insert xs k x some le rise before after i j ij (omega (arith, length-insert xs k x le, put_length, same)))
+
+  module _ (hs os : List ℕ) (fits : x < 2 ^ 64) (len_o : length os ≡ length (insert ms k x)) (covered : length (insert ms k x) ≤ 64 * length hs) (begun : (g : ℕ) → g < length hs → 64 * g < length (insert ms k x))
+      (h_kept : (g : ℕ) → g < from → get_or hs g 0 ≡ get_or gs g 0) (o_kept : (j : ℕ) → j < 64 * from → get_or os j 0 ≡ get_or (insert ms k x) j 0)
+      (first : (g : ℕ) → from ≤ g → g < length hs → get_or hs g 0 ≡ get_or (insert ms k x) (64 * g) 0) (sums : (j : ℕ) → 64 * from ≤ j → j < length (insert ms k x) → get_or hs (j / 64) 0 + get_or os j 0 ≡ get_or (insert ms k x) j 0) where
+    early : (j : ℕ) → j < 64 * from → get_or os j 0 ≡ get_or ns j 0
+    early j l = o_kept j l ∙ (get_or-insert_below ms k x 0 j (omega arith) (omega (arith, same)) ∙ m_kept j l)
+
+    sum_put : (j : ℕ) → j < length os → get_or hs (j / 64) 0 + get_or os j 0 ≡ get_or (insert xs k x) j 0
+    sum_put j lt = elim (less_or_not j (64 * from)) [
+      | inl l ↦ omega (arith, h_kept (j / 64) (omega arith), early j l, sum_at gs ns xs j e (omega (arith, same)), get_or-insert_below xs k x 0 j (omega arith) le)
+      | inr l ↦ sums j l (omega arith) ∙ put_at j l (omega arith)
+    ]
+
+    below : (j : ℕ) → j < length xs → get_or xs j 0 < 2 ^ 64
+    below j lt = omega (arith, sum_at gs ns xs j e (omega (arith, same)), a.fits j (omega (arith, same)))
+
+    pub put_grouped : AreGrouped hs os
+    put_grouped = record {
+      covered = omega arith;
+      begun = λ g lt. omega (arith, begun g lt);
+      zero = λ g lt. elim (less_or_not g from) [
+        | inl l ↦ early (64 * g) (omega arith) ∙ a.zero g (omega (arith, a.covered, same))
+        | inr l ↦ let turned : 64 * g / 64 ≡ g = omega arith in omega (arith, sums (64 * g) (omega arith) (begun g lt), ap (λ i. get_or hs i 0) turned, first g l lt)
+      ];
+      fits = λ j lt. omega (arith, sum_put j lt, below-insert xs k x (2 ^ 64) le below fits j (omega (arith, length-insert xs k x le, put_length, same)));
+    }
+
+    pub put_sums : sums_of 0 hs os ≡ insert xs k x
+    put_sums = ext_get_or 0 (sums_of 0 hs os) (insert xs k x) (omega (arith, length-sums_of 0 hs os, length-insert xs k x le, put_length, same))
+        (λ j lt. let l : j < length os = omega (arith, length-sums_of 0 hs os) in sum_at hs os (sums_of 0 hs os) j refl l ∙ sum_put j l)

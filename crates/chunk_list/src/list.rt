@@ -4,17 +4,17 @@ ghost use Rattle.std.specs.List.{insert};
 
 use crate::part::MOST;
 use crate::parts::Parts;
-use arrayvec::ArrayVec;
 use std::alloc::{AllocError, Global};
 use std::marker::Model;
 
 /// How the items lie in memory.
 #[derive(Drop)]
 enum Form<T: Copy + Default> {
-    /// At most two, with no memory of their own.
-    Few(ArrayVec<T, 2>),
+    Empty,
+    One(T),
+    Two(T, T),
     /// At most as many as a part takes.
-    Flat(Vec<T>),
+    Flat(Box<Vec<T>>),
     Long(Box<Parts<T>>),
 }
 
@@ -40,7 +40,7 @@ impl<T: Copy + Default> Model for ChunkList<T> {
     ghost invariant = { λ a. IsShort a.form };
 }
 
-ghost use Rattle.chunk_list.specs.Form.{form_view, IsShort, TakesMore, Replaces};
+ghost use Rattle.chunk_list.specs.Form.{form_view, IsShort, IsFew, TakesMore, Replaces};
 
 /// The form that comes next, where one takes no more items.
 fn next_form<T: Copy + Default>(
@@ -52,10 +52,11 @@ fn next_form<T: Copy + Default>(
     ensures free { 0 < (form_view form.now).spare → IsOk result }
 {
     match form {
-        Form::Few(items) if items.len() == 2 => {
-            let mut flat = Vec::with_capacity(alloc, 4)?;
-            flat.extend_from_slice(items.as_slice())?;
-            Ok(Some(Form::Flat(flat)))
+        Form::Two(first, second) => {
+            let mut items = Vec::with_capacity(alloc, 4)?;
+            items.push(*first)?;
+            items.push(*second)?;
+            Ok(Some(Form::Flat(Box::new(alloc, items)?)))
         }
         Form::Flat(items) if items.len() == MOST => {
             let parts = Parts::new(alloc, items.as_slice())?;
@@ -65,13 +66,33 @@ fn next_form<T: Copy + Default>(
     }
 }
 
+/// The form of at most two items with one more before the one at a place.
+fn with_item<T: Copy + Default>(form: &Form<T>, i: usize, item: T) -> Form<T>
+    requires few { IsFew form.now }
+    requires place { i ≤ length (form_view form.now).items }
+    requires room { 0 < (form_view form.now).spare }
+    ensures items { (form_view result).items ≡ insert (form_view form.now).items i item }
+    ensures spare { (form_view form.now).spare ≤ (form_view result).spare + 1 }
+    ensures short { IsShort result }
+{
+    match form {
+        Form::One(other) => if i == 0 {
+            Form::Two(item, *other)
+        } else {
+            Form::Two(*other, item)
+        },
+        _ => Form::One(item),
+    }
+}
+
 impl<T: Copy + Default> ChunkList<T> {
-    /// No item.
+    /// No item. The first two take no memory.
     pub fn new(alloc: Global) -> ChunkList<T>
-        ensures { result.items ≡ [] }
+        ensures items { result.items ≡ [] }
+        ensures spare { result.spare ≡ 2 }
     {
         ChunkList {
-            form: Form::Few(ArrayVec::new()),
+            form: Form::Empty,
             alloc,
         }
     }
@@ -80,7 +101,9 @@ impl<T: Copy + Default> ChunkList<T> {
         ensures { result ≡ length self.now.items }
     {
         match &self.form {
-            Form::Few(items) => items.len(),
+            Form::Empty => 0,
+            Form::One(_) => 1,
+            Form::Two(_, _) => 2,
             Form::Flat(items) => items.len(),
             Form::Long(parts) => parts.len(),
         }
@@ -92,7 +115,9 @@ impl<T: Copy + Default> ChunkList<T> {
         ensures { result ≡ slice_index_or self.now.items i result }
     {
         match &self.form {
-            Form::Few(items) => items[i],
+            Form::Empty => T::default(),
+            Form::One(item) => *item,
+            Form::Two(first, second) => if i == 0 { *first } else { *second },
             Form::Flat(items) => items[i],
             Form::Long(parts) => parts.get(i),
         }
@@ -111,9 +136,9 @@ impl<T: Copy + Default> ChunkList<T> {
             return Ok(());
         }
         match &mut self.form {
-            Form::Few(_) => Ok(()),
             Form::Flat(items) => items.reserve(1),
             Form::Long(parts) => parts.reserve(),
+            _ => Ok(()),
         }
     }
 
@@ -125,11 +150,11 @@ impl<T: Copy + Default> ChunkList<T> {
         ensures spare { self.old.spare ≤ self.new.spare + 1 }
     {
         match &mut self.form {
-            Form::Few(items) => items.insert(i, item),
             Form::Flat(items) => {
                 let _ = items.insert(i, item);
             }
             Form::Long(parts) => parts.put(i, item),
+            few => *few = with_item(few, i, item),
         }
     }
 }

@@ -58,13 +58,15 @@ fn last_at_most(numbers: &[usize], from: usize, to: usize, i: usize) -> usize
     low
 }
 
-/// Adds to each number that of its group.
-fn join_groups(groups: &[usize], own: &mut [usize])
+/// Adds to each number from a place on that of its group.
+fn join_groups(groups: &[usize], own: &mut [usize], from: usize)
+    requires from { from ≤ length own.old }
     requires covered { length own.old ≤ 64 * length groups.now }
-    requires fits { (k : ℕ) → k < length own.old → slice_index groups.now (k / 64) + slice_index own.old k ≤ usize.MAX }
-    ensures { (k : ℕ) → k < length own.old → slice_index own.new k ≡ slice_index groups.now (k / 64) + slice_index own.old k }
+    requires fits { (k : ℕ) → from ≤ k → k < length own.old → slice_index groups.now (k / 64) + slice_index own.old k ≤ usize.MAX }
+    ensures kept { (k : ℕ) → k < from → slice_index own.new k ≡ slice_index own.old k }
+    ensures sums { (k : ℕ) → from ≤ k → k < length own.old → slice_index own.new k ≡ slice_index groups.now (k / 64) + slice_index own.old k }
 {
-    for k in 0..own.len() {
+    for k in from..own.len() {
         own[k] += groups[k / GROUP];
     }
 }
@@ -87,17 +89,21 @@ fn begin_group(groups: &mut Vec<usize>, k: usize, number: usize)
     }
 }
 
-/// Takes from each number the first of its group, which is the group's.
-fn part_groups(groups: &mut Vec<usize>, own: &mut [usize])
+/// Takes from each number, from a group on, the first of its group, which is the group's.
+fn part_groups(groups: &mut Vec<usize>, own: &mut [usize], from: usize)
+    requires groups { from ≤ vec_len groups.old }
+    requires from { 64 * from ≤ length own.old }
     requires room { length own.old ≤ 64 * vec_capacity groups.old }
-    requires rise { (j k : ℕ) → j ≤ k → k < length own.old → slice_index own.old j ≤ slice_index own.old k }
+    requires rise { (j k : ℕ) → 64 * from ≤ j → j ≤ k → k < length own.old → slice_index own.old j ≤ slice_index own.old k }
     ensures covered { length own.old ≤ 64 * vec_len groups.new }
     ensures begun { (g : ℕ) → g < vec_len groups.new → 64 * g < length own.old }
-    ensures first { (g : ℕ) → g < vec_len groups.new → slice_index groups.new.items g ≡ slice_index own.old (64 * g) }
-    ensures sums { (k : ℕ) → k < length own.old → slice_index groups.new.items (k / 64) + slice_index own.new k ≡ slice_index own.old k }
+    ensures groups { (g : ℕ) → g < from → slice_index groups.new.items g ≡ slice_index groups.old.items g }
+    ensures kept { (k : ℕ) → k < 64 * from → slice_index own.new k ≡ slice_index own.old k }
+    ensures first { (g : ℕ) → from ≤ g → g < vec_len groups.new → slice_index groups.new.items g ≡ slice_index own.old (64 * g) }
+    ensures sums { (k : ℕ) → 64 * from ≤ k → k < length own.old → slice_index groups.new.items (k / 64) + slice_index own.new k ≡ slice_index own.old k }
 {
-    groups.clear();
-    for k in 0..own.len() {
+    groups.truncate(from);
+    for k in from * GROUP..own.len() {
         begin_group(groups, k, own[k]);
         own[k] -= groups[k / GROUP];
     }
@@ -214,7 +220,8 @@ impl Places {
         self.own.reserve(1)
     }
 
-    /// Puts a number before the one at a place, where there is room for it.
+    /// Puts a number before the one at a place, where there is room for it. The groups before its own
+    /// stay as they are.
     pub(crate) fn insert(&mut self, k: usize, number: usize)
         requires some { 0 < k }
         requires place { k ≤ length self.old.items }
@@ -224,8 +231,13 @@ impl Places {
         requires after { (j : ℕ) → k ≤ j → j < length self.old.items → number ≤ slice_index self.old.items j }
         ensures items { self.new.items ≡ insert self.old.items k number }
     {
-        join_groups(self.groups.as_slice(), self.own.as_mut_slice());
+        let group = k / GROUP;
+        join_groups(
+            self.groups.as_slice(),
+            self.own.as_mut_slice(),
+            group * GROUP,
+        );
         let _ = self.own.insert(k, number);
-        part_groups(&mut self.groups, self.own.as_mut_slice());
+        part_groups(&mut self.groups, self.own.as_mut_slice(), group);
     }
 }

@@ -1,5 +1,5 @@
 -- How the updates of a history lie in memory.
-use Rattle.std.proofs.Common.{◌≡◌, ℕ, zero, suc, ◌+◌, ◌^◌, ◌<◌, ◌≤◌, List, [], ◌∷◌, ◌++◌, map, length, get_or, Some, refl, sym, ap, ◌∙◌, subst, arith, length-append}
+use Rattle.std.proofs.Common.{◌≡◌, ℕ, zero, suc, ◌+◌, ◌^◌, ◌<◌, ◌≤◌, List, [], ◌∷◌, ◌++◌, map, length, get_or, Some, true, false, ◌⊎◌, inl, inr, refl, sym, ap, ◌∙◌, subst, arith, length-append}
 use Rattle.std.specs.List.{insert, All, AllByRecursion, slice_get}
 use Rattle.std.proofs.lemmas.List.{length-map, get_or-map, get_or_append_left}
 use Rattle.std.proofs.lemmas.List.Edits.{length-insert}
@@ -10,7 +10,7 @@ use Rattle.time_history.specs.declared.updates.Update.{Update}
 use Rattle.time_history.specs.declared.history.Detail.{Detail}
 use Rattle.time_history.specs.KeyValues.{KeysRise}
 use Rattle.time_history.specs.Updates.{ValuesRise}
-use Rattle.time_history.specs.History.{Change, change_of, changes_of, updates_of, IsSound}
+use Rattle.time_history.specs.History.{Change, change_of, changes_of, updates_of, lacks_blank, with_blank, blank_place, IsSound}
 
 -- each detail has a change
 pub length-changes_of : (ds : List Detail) (vs : List (List (ℕ × Value))) → length (changes_of ds vs) ≡ length ds
@@ -82,40 +82,56 @@ changes_with ds vs p r d le h e =
     last_at [] p = refl
     last_at (v ∷ vs) p = last_at vs p
 
-first_kept : (vs ws : List (List (ℕ × Value))) (p : List (ℕ × Value)) → slice_get vs 0 ≡ Some p → slice_get (vs ++ ws) 0 ≡ Some p
-first_kept [] ws p h = cc
-first_kept (v ∷ vs) ws p h = h
+-- the place for updates without values stays where more values are added
+blank_kept : (vs : List (List (ℕ × Value))) (p : List (ℕ × Value)) → lacks_blank vs ≡ false → 0 < length vs → slice_get vs (blank_place vs) ≡ Some [] → slice_get (vs ++ p ∷ []) (blank_place (vs ++ p ∷ [])) ≡ Some []
+blank_kept [] p l some h = absurd (omega arith)
+blank_kept ([] ∷ vs) p l some h = refl
+blank_kept ((q ∷ qs) ∷ []) p l some h = cc
+blank_kept ((q ∷ qs) ∷ (v ∷ vs)) p l some h = h
 
-some_values : (vs : List (List (ℕ × Value))) → slice_get vs 0 ≡ Some [] → 0 < length vs
-some_values [] h = cc
-some_values (v ∷ vs) h = omega arith
+blank_first : (vs : List (List (ℕ × Value))) (p : List (ℕ × Value)) → length vs ≡ 0 → 0 < length (vs ++ p ∷ []) → lacks_blank (vs ++ p ∷ []) ≡ false → slice_get (vs ++ p ∷ []) (blank_place (vs ++ p ∷ [])) ≡ Some []
+blank_first [] [] e some l = refl
+blank_first [] (q ∷ qs) e some l = cc
+blank_first (v ∷ vs) p e some l = absurd (omega arith)
 
-first_is : (vs : List (List (ℕ × Value))) → slice_get vs 0 ≡ Some [] → get_or vs 0 [] ≡ []
-first_is [] h = refl
-first_is (v ∷ vs) h = cc
+blank_more : (vs : List (List (ℕ × Value))) (p : List (ℕ × Value)) → lacks_blank vs ≡ false → (0 < length vs → lacks_blank vs ≡ false → slice_get vs (blank_place vs) ≡ Some [])
+    → 0 < length (vs ++ p ∷ []) → lacks_blank (vs ++ p ∷ []) ≡ false → slice_get (vs ++ p ∷ []) (blank_place (vs ++ p ∷ [])) ≡ Some []
+blank_more [] p l h = blank_first [] p refl
+blank_more (v ∷ vs) p l h = λ some no. blank_kept (v ∷ vs) p l (omega arith) (h (omega arith) l)
 
-pub change_without : (vs : List (List (ℕ × Value))) (d : Detail) → slice_get vs 0 ≡ Some [] → d.values ≡ 0 → change_of vs d ≡ record { kind = d.kind; props = [] }
-change_without vs d h e = ap (λ (p : List (ℕ × Value)). record { kind = d.kind; props = p }) (ap (λ i. get_or vs i []) e ∙ first_is vs h)
+blank_within : (vs : List (List (ℕ × Value))) → 0 < length vs → lacks_blank vs ≡ false → blank_place vs < length vs
+blank_within [] some l = absurd (omega arith)
+blank_within ([] ∷ vs) some l = omega arith
+blank_within ((q ∷ qs) ∷ []) some l = cc
+blank_within ((q ∷ qs) ∷ (v ∷ vs)) some l = omega arith
 
-pub sound_without : (ss : List Stamp) (ds : List Detail) (vs : List (List (ℕ × Value))) (ts : List Stamp) (s : Stamp) (r : ℕ) (d : Detail) → IsSound ss ds vs → r ≤ length ss → length ds + 1 < 2 ^ 32 → ts ≡ insert ss r s → IsRising ts → d.values ≡ 0
-    → IsSound ts (insert ds r d) vs
-sound_without ss ds vs ts s r d h le fit e rise zero_place =
+found_is : (vs : List (List (ℕ × Value))) (i : ℕ) (p : List (ℕ × Value)) → slice_get vs i ≡ Some p → get_or vs i [] ≡ p
+found_is [] i p h = cc
+found_is (v ∷ vs) zero p h = cc
+found_is (v ∷ vs) (suc i) p h = found_is vs i p h
+
+pub change_without : (vs : List (List (ℕ × Value))) (d : Detail) → slice_get vs (blank_place vs) ≡ Some [] → d.values ≡ blank_place vs → change_of vs d ≡ record { kind = d.kind; props = [] }
+change_without vs d h e = ap (λ (p : List (ℕ × Value)). record { kind = d.kind; props = p }) (ap (λ i. get_or vs i []) e ∙ found_is vs (blank_place vs) [] h)
+
+pub sound_without : (ss : List Stamp) (ds : List Detail) (vs : List (List (ℕ × Value))) (ts : List Stamp) (s : Stamp) (r : ℕ) (d : Detail) → IsSound ss ds vs → r ≤ length ss → length ds + 1 < 2 ^ 32 → ts ≡ insert ss r s → IsRising ts
+    → 0 < length vs → lacks_blank vs ≡ false → d.values ≡ blank_place vs → IsSound ts (insert ds r d) vs
+sound_without ss ds vs ts s r d h le fit e rise some l place =
     let m = length-insert ss r s le in
     let n = length-insert ds r d (omega (arith, h.lengths)) in
-    let first = some_values vs h.first in
     record {
       lengths = omega (arith, ap length e, h.lengths);
       fits = omega arith;
       rising = rise;
-      first = h.first;
-      places = each_insert (λ (d : Detail). d.values < length vs) ds r d (omega (arith, h.lengths)) h.places (omega arith);
+      blank = h.blank;
+      places = each_insert (λ (d : Detail). d.values < length vs) ds r d (omega (arith, h.lengths)) h.places (omega (arith, blank_within vs some l));
       few = omega (arith, h.few);
+      few_alone = λ lt. omega (arith, h.few_alone lt);
       rise = h.rise;
     }
 
-pub sound_with : (ss : List Stamp) (ds : List Detail) (vs : List (List (ℕ × Value))) (ts : List Stamp) (s : Stamp) (p : List (ℕ × Value)) (r : ℕ) (d : Detail) → IsSound ss ds vs → r ≤ length ss → length ds + 1 < 2 ^ 32 → ts ≡ insert ss r s → IsRising ts → d.values ≡ length vs → KeysRise p
-    → IsSound ts (insert ds r d) (vs ++ p ∷ [])
-sound_with ss ds vs ts s p r d h le fit e rise place keys =
+pub sound_with : (ss : List Stamp) (ds : List Detail) (vs : List (List (ℕ × Value))) (ts : List Stamp) (s : Stamp) (p : List (ℕ × Value)) (r : ℕ) (d : Detail) → IsSound ss ds vs → r ≤ length ss → length ds + 1 < 2 ^ 32 → ts ≡ insert ss r s → IsRising ts
+    → lacks_blank vs ≡ false → d.values ≡ length vs → KeysRise p → IsSound ts (insert ds r d) (vs ++ p ∷ [])
+sound_with ss ds vs ts s p r d h le fit e rise l place keys =
     let m = length-insert ss r s le in
     let n = length-insert ds r d (omega (arith, h.lengths)) in
     let more : length (vs ++ p ∷ []) ≡ length vs + 1 = length-append vs (p ∷ []) in
@@ -123,19 +139,69 @@ sound_with ss ds vs ts s p r d h le fit e rise place keys =
       lengths = omega (arith, ap length e, h.lengths);
       fits = omega arith;
       rising = rise;
-      first = first_kept vs (p ∷ []) [] h.first;
+      blank = blank_more vs p l h.blank;
       places = each_insert (λ (d : Detail). d.values < length (vs ++ p ∷ [])) ds r d (omega (arith, h.lengths)) (each_weaker (λ (d : Detail). d.values < length vs) (λ (d : Detail). d.values < length (vs ++ p ∷ [])) (λ d lt. omega arith) ds h.places) (omega arith);
       few = omega (arith, h.few);
+      few_alone = λ lt. omega (arith, h.few_alone (omega arith));
       rise = each_append KeysRise vs (p ∷ []) h.rise (keys, tt);
     }
 
-pub sound_nothing : (vs : List (List (ℕ × Value))) → vs ≡ [] ∷ [] → IsSound [] [] vs
+pub sound_nothing : (vs : List (List (ℕ × Value))) → vs ≡ [] → IsSound [] [] vs
 sound_nothing vs e = record {
   lengths = refl;
   fits = omega arith;
   rising = λ i j lt in_list. absurd (omega arith);
-  first = ap (λ us. slice_get us 0) e;
+  blank = λ some l. absurd (omega (arith, ap length e));
   places = tt;
   few = omega (arith, ap length e);
-  rise = subst (AllByRecursion KeysRise) (sym e) (tt, tt);
+  few_alone = λ lt. omega (arith, ap length e);
+  rise = subst (AllByRecursion KeysRise) (sym e) tt;
 }
+
+-- ---- a place for updates without values
+
+blank_added : (vs : List (List (ℕ × Value))) → lacks_blank vs ≡ true → slice_get (vs ++ [] ∷ []) (blank_place (vs ++ [] ∷ [])) ≡ Some []
+blank_added [] l = cc
+blank_added ([] ∷ vs) l = cc
+blank_added ((p ∷ ps) ∷ []) l = refl
+blank_added ((p ∷ ps) ∷ (q ∷ vs)) l = cc
+
+alone : (vs : List (List (ℕ × Value))) → lacks_blank vs ≡ true → length vs ≡ 1
+alone [] l = cc
+alone ([] ∷ vs) l = cc
+alone ((p ∷ ps) ∷ []) l = refl
+alone ((p ∷ ps) ∷ (q ∷ vs)) l = cc
+
+sound_added : (ss : List Stamp) (ds : List Detail) (vs : List (List (ℕ × Value))) → IsSound ss ds vs → lacks_blank vs ≡ true → IsSound ss ds (vs ++ [] ∷ [])
+sound_added ss ds vs h l =
+    let one = alone vs l in
+    let more : length (vs ++ [] ∷ []) ≡ length vs + 1 = length-append vs ([] ∷ []) in
+    record {
+      lengths = h.lengths;
+      fits = h.fits;
+      rising = h.rising;
+      blank = λ some no. blank_added vs l;
+      places = each_weaker (λ (d : Detail). d.values < length vs) (λ (d : Detail). d.values < length (vs ++ [] ∷ [])) (λ d lt. omega arith) ds h.places;
+      few = omega (arith, h.few_alone (omega arith));
+      few_alone = λ lt. absurd (omega arith);
+      rise = each_append KeysRise vs ([] ∷ []) h.rise (tt, tt);
+    }
+
+by_blank : (vs : List (List (ℕ × Value))) → ((lacks_blank vs ≡ true) × (with_blank vs ≡ vs ++ [] ∷ [])) ⊎ ((lacks_blank vs ≡ false) × (with_blank vs ≡ vs))
+by_blank [] = inr (refl, refl)
+by_blank ([] ∷ vs) = inr (refl, refl)
+by_blank ((p ∷ ps) ∷ []) = inl (refl, refl)
+by_blank ((p ∷ ps) ∷ (q ∷ vs)) = inr (refl, refl)
+
+-- a history is as sound with the place, and has the same changes
+pub sound_blank : (ss : List Stamp) (ds : List Detail) (vs ws : List (List (ℕ × Value))) → IsSound ss ds vs → ws ≡ with_blank vs → IsSound ss ds ws × (changes_of ds ws ≡ changes_of ds vs) × (lacks_blank ws ≡ false)
+sound_blank ss ds vs ws h e = elim (by_blank vs) [
+  | inl b ↦ subst (λ us. IsSound ss ds us × (changes_of ds us ≡ changes_of ds vs) × (lacks_blank us ≡ false)) (sym (e ∙ b.1)) (sound_added ss ds vs h b.0, changes_of-more vs ([] ∷ []) ds h.places, no_more vs b.0)
+  | inr b ↦ subst (λ us. IsSound ss ds us × (changes_of ds us ≡ changes_of ds vs) × (lacks_blank us ≡ false)) (sym (e ∙ b.1)) (h, refl, b.0)
+]
+  where
+    no_more : (vs : List (List (ℕ × Value))) → lacks_blank vs ≡ true → lacks_blank (vs ++ [] ∷ []) ≡ false
+    no_more [] l = cc
+    no_more ([] ∷ vs) l = cc
+    no_more ((p ∷ ps) ∷ []) l = refl
+    no_more ((p ∷ ps) ∷ (q ∷ vs)) l = cc

@@ -1,5 +1,5 @@
 -- What a contract sees of a history, and how it lies in memory.
-use Rattle.std.specs.Prelude.{ℕ, List, [], ◌∷◌, ◌+◌, ◌^◌, ◌≡◌, ◌<◌, ◌≤◌, length, map, slice_index_or, slice_get, Some}
+use Rattle.std.specs.Prelude.{ℕ, List, [], ◌∷◌, ◌++◌, ◌+◌, ◌^◌, ◌≡◌, ◌<◌, ◌≤◌, Bool, true, false, cond, min, length, map, slice_index_or, slice_get, Some}
 use Rattle.std.specs.List.{AllByRecursion}
 use Rattle.graph_model.specs.declared.properties.Value.{Value}
 use Rattle.time_column.specs.Stamp.{Stamp, IsRising}
@@ -37,12 +37,38 @@ updates_of [] cs = []
 updates_of (s ∷ ss) [] = []
 updates_of (s ∷ ss) (c ∷ cs) = record { time = s.time; order = s.order; arrival = s.arrival; kind = c.kind; props = c.props } ∷ updates_of ss cs
 
--- what is true of the parts of a history: no values stand at the first place
+-- whether the values of one update stand alone, and no place stands for updates without values
+abbrev pub lacks_blank : List (List (ℕ × Value)) → Bool
+lacks_blank [] = false
+lacks_blank ([] ∷ vs) = false
+lacks_blank ((p ∷ ps) ∷ []) = true
+lacks_blank ((p ∷ ps) ∷ (q ∷ vs)) = false
+
+-- the values, with a place for updates without values where there is none
+abbrev pub with_blank : List (List (ℕ × Value)) → List (List (ℕ × Value))
+with_blank vs = cond (lacks_blank vs) (vs ++ [] ∷ []) vs
+
+-- the place that stands for updates without values: the first, or the second where the first has values
+abbrev pub blank_place : List (List (ℕ × Value)) → ℕ
+blank_place [] = 0
+blank_place ([] ∷ vs) = 0
+blank_place ((p ∷ ps) ∷ vs) = 1
+
+-- how many of n more updates have room, where so many values do: the first update takes a place in any case,
+-- and after a first one with values a place has to be made for those without
+abbrev pub takes : List (List (ℕ × Value)) → ℕ → ℕ → ℕ
+takes [] capacity n = min 1 (min capacity n)
+takes ([] ∷ vs) capacity n = n
+takes ((p ∷ ps) ∷ []) capacity n = 0
+takes ((p ∷ ps) ∷ (q ∷ vs)) capacity n = n
+
+-- what is true of the parts of a history: a place stands for updates without values, unless the values of one stand alone
 pub record IsSound (stamps : List Stamp) (details : List Detail) (values : List (List (ℕ × Value))) : Type 0 where
   pub lengths : length stamps ≡ length details
   pub fits : length details < 2 ^ 32
   pub rising : IsRising stamps
-  pub first : slice_get values 0 ≡ Some []
+  pub blank : 0 < length values → lacks_blank values ≡ false → slice_get values (blank_place values) ≡ Some []
   pub places : AllByRecursion (λ (d : Detail). d.values < length values) details
   pub few : length values ≤ length details + 1
+  pub few_alone : length values < 2 → length values ≤ length details
   pub rise : AllByRecursion KeysRise values

@@ -1,5 +1,5 @@
 //! The history of one entity.
-ghost use Rattle.std.specs.Prelude.{◌≡◌, ℕ, ◌+◌, ◌-◌, ◌*◌, ◌^◌, ◌<◌, ◌≤◌, ◌≤ℤ◌, ◌<ℤ◌, [], ◌∷◌, length, int_lt, true, false, OnOk, OnErr, IsOk};
+ghost use Rattle.std.specs.Prelude.{◌≡◌, ℕ, ◌+◌, ◌-◌, ◌*◌, ◌^◌, ◌<◌, ◌≤◌, ◌≤ℤ◌, ◌<ℤ◌, [], ◌∷◌, ◌||◌, ◌==◌, length, int_lt, nat_lt, true, false, OnOk, OnErr, IsOk};
 ghost use Rattle.std.specs.List.{All};
 ghost use Rattle.std.specs.Option.{option_copied};
 ghost use Rattle.std.specs.Ordering.{int_eq};
@@ -11,6 +11,7 @@ ghost use Rattle.time_history.specs.Kinds.{OfOneSort};
 ghost use Rattle.time_column.specs.Stamp.{is_not_after};
 ghost use Rattle.time_history.specs.Updates.{stamp_of, update_at, placed, ComesLast, UpdatesRise, TimesRise, ValuesRise};
 ghost use Rattle.time_history.specs.Spans.{carries, IsSpan, IsCut, IsTaken, IsPart, IsAllowed, IsClipped};
+ghost use Rattle.time_history.specs.History.{lacks_blank, with_blank, blank_place};
 ghost use Rattle.time_history.specs.Asked.{IsAliveAt, HappensAt, IsPresent, IsLastKind, IsValue, IsValueIn, IsNextUpdate, IsNextContact, is_final_at};
 
 use crate::search::{Probe, first_after, last_place};
@@ -43,26 +44,70 @@ struct Detail {
     values: u32,
 }
 
+/// Whether the values of one update stand alone, so that no place stands for updates without values.
+fn lacks_blank(values: &[KeyValues]) -> bool
+    ensures { result ≡ lacks_blank values.now }
+{
+    values.len() == 1 && values[0].len() > 0
+}
+
+/// The place that stands for updates without values.
+fn blank_place(values: &[KeyValues]) -> u32
+    requires { 0 < length values.now }
+    ensures { result ≡ blank_place values.now }
+{
+    if values[0].len() == 0 { 0 } else { 1 }
+}
+
+/// Whether an update with these values takes a place of its own among the values of all updates.
+fn takes_place(values: &[KeyValues], props: &KeyValues) -> bool
+    ensures { result ≡ (nat_lt 0 (length props.now) || length values.now == 0) }
+{
+    props.len() > 0 || values.len() == 0
+}
+
+/// Makes room for the values of one more update. Where the values of one stand alone, a place is made
+/// beside them for updates without values.
+fn reserve_values(values: &mut SmallVec<KeyValues, 1>, props: &KeyValues) -> Result<(), AllocError>
+    ensures items { OnOk result (values.new.items ≡ with_blank values.old.items) }
+    ensures room { OnOk result (0 < length props.now → length values.new.items < values.new.capacity) }
+    ensures first { OnOk result (length values.new.items ≡ 0 → 0 < values.new.capacity) }
+    ensures free { lacks_blank values.old.items ≡ false → (0 < length props.now → length values.old.items < values.old.capacity) → (length values.old.items ≡ 0 → 0 < values.old.capacity) → IsOk result }
+    ensures capacity { values.old.capacity ≤ values.new.capacity }
+    ensures err { OnErr result (values.new ≡ values.old) }
+{
+    if lacks_blank(values.as_slice()) {
+        values.reserve(2)?;
+        let blank = KeyValues::new(*values.allocator());
+        values.push_reserved(blank);
+        return Ok(());
+    }
+    if takes_place(values.as_slice(), props) {
+        return values.reserve(1);
+    }
+    Ok(())
+}
+
 /// The updates of one entity, rising by time, then by order, then by arrival. A contract sees the
 /// updates, and for how many more there is room.
 #[derive(Drop)]
 pub struct History {
     column: TimeColumn,
     details: ChunkList<Detail>,
-    // The first stands for all updates without values.
+    // The first stands for all updates without values, or the second where the first update had values.
     values: SmallVec<KeyValues, 1>,
 }
 
 impl Model for History {
     ghost use Rattle.std.specs.Prelude.{◌-◌, length, min};
-    ghost use Rattle.time_history.specs.History.{Known, IsSound, updates_of, changes_of};
+    ghost use Rattle.time_history.specs.History.{Known, IsSound, updates_of, changes_of, takes};
 
     ghost Value = { Known };
 
     ghost view = { λ h. record {
       updates = updates_of h.column.stamps (changes_of h.details.items h.values.items);
-      spare = min h.column.spare h.details.spare;
-      spare_values = min (min h.column.spare h.details.spare) (h.values.capacity - length h.values.items);
+      spare = takes h.values.items h.values.capacity (min h.column.spare h.details.spare);
+      spare_values = min (takes h.values.items h.values.capacity (min h.column.spare h.details.spare)) (h.values.capacity - length h.values.items);
     } };
 
     ghost invariant = { λ h. IsSound h.column.stamps h.details.items h.values.items };
@@ -71,16 +116,16 @@ impl Model for History {
 impl History {
     ghost use Rattle.time_history.specs.History.{HasRoomFor};
 
-    /// No update.
+    /// No update. The first takes no memory, with values or without.
     pub fn new(alloc: Global) -> History
-        ensures { result.updates ≡ [] }
+        ensures updates { result.updates ≡ [] }
+        ensures spare { result.spare ≡ 1 }
+        ensures spare_values { result.spare_values ≡ 1 }
     {
-        let mut values = SmallVec::new(alloc);
-        values.push_reserved(KeyValues::new(alloc));
         History {
             column: TimeColumn::new(alloc),
             details: ChunkList::new(alloc),
-            values,
+            values: SmallVec::new(alloc),
         }
     }
 
@@ -142,9 +187,7 @@ impl History {
         ensures spare_values { self.old.spare_values ≤ self.new.spare_values }
         ensures err { OnErr result (self.new ≡ self.old) }
     {
-        if props.len() > 0 {
-            self.values.reserve(1)?;
-        }
+        reserve_values(&mut self.values, props)?;
         self.column.reserve()?;
         self.details.reserve()
     }
@@ -199,13 +242,14 @@ impl History {
             props,
         } = update;
         let _ = self.column.insert(at, time, order, arrival);
-        if props.len() == 0 {
-            self.details.put(at, Detail { kind, values: 0 });
+        if takes_place(self.values.as_slice(), &props) {
+            let values = self.values.len() as u32;
+            self.details.put(at, Detail { kind, values });
+            self.values.push_reserved(props);
             return;
         }
-        let values = self.values.len() as u32;
+        let values = blank_place(self.values.as_slice());
         self.details.put(at, Detail { kind, values });
-        self.values.push_reserved(props);
     }
 
     /// Whether what comes before a place is carried over it.

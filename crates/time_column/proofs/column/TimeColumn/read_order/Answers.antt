@@ -4,10 +4,8 @@ use Rattle.time_column.proofs.column.TimeColumn.read_order.Goals as goal
 
 pub get-requires : goal.get-requires
 get-requires c =
-    let s = c.self.inside in (
-      omega arith,
-      omega (arith, in_times s.times.items s.marks.items c.args.self.now.stamps c.args.i c.self.invariant.0 (ap (λ v. v.stamps) c.self.view_is) c.requires, c.self.invariant.0),
-    )
+    let s = c.self.inside in
+    omega (arith, in_times s.times.items s.marks.items c.args.self.now.stamps c.args.i c.self.invariant.0 (ap (λ v. v.stamps) c.self.view_is) c.requires, c.self.invariant.0)
 
 pub returns : goal.returns
 returns c =

@@ -1,14 +1,12 @@
-use Rattle.std.proofs.Common.{arith, ap, ◌∙◌, w64}
+use Rattle.std.proofs.Common.{ap, ◌∙◌, w64}
 use Rattle.std.proofs.lemmas.Int.{to_z-of_z}
 use Rattle.time_column.proofs.Stamps.{in_times, time_in}
 use Rattle.time_column.proofs.column.TimeColumn.read_time.Goals as goal
 
 pub get-requires : goal.get-requires
 get-requires c =
-    let s = c.self.inside in (
-      omega arith,
-      in_times s.times.items s.marks.items c.args.self.now.stamps c.args.i c.self.invariant.0 (ap (λ v. v.stamps) c.self.view_is) c.requires,
-    )
+    let s = c.self.inside in
+    in_times s.times.items s.marks.items c.args.self.now.stamps c.args.i c.self.invariant.0 (ap (λ v. v.stamps) c.self.view_is) c.requires
 
 pub returns : goal.returns
 returns c =
