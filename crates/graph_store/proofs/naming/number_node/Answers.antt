@@ -1,0 +1,14 @@
+use Rattle.std.proofs.Common.{◌∷◌, ◌++◌, [], cond, sym, ap}
+use Rattle.graph_model.specs.Names.{same_name}
+use Rattle.graph_store.specs.Histories.{updates_in}
+use Rattle.graph_store.proofs.Readers.{one_found}
+use Rattle.graph_store.proofs.EdgeNames.{known_same}
+use Rattle.graph_store.proofs.naming.number_node.Goals as goal
+
+pub returns-in-Some-clause-names : goal.returns-in-Some-clause-names
+returns-in-Some-clause-names c = known_same c.args.nodes.now.names c.args.name (one_found (same_name c.args.name) c.args.nodes.now.names c.in-Some.number [] (sym c.in-Some.ensures))
+
+pub returns-in-Some-clause-filed : goal.returns-in-Some-clause-filed
+returns-in-Some-clause-filed c =
+    let before = updates_in c.args.histories.now.items in
+    sym (ap (λ t. cond t before (before ++ [] ∷ [])) (one_found (same_name c.args.name) c.args.nodes.now.names c.in-Some.number [] (sym c.in-Some.ensures)))

@@ -1,0 +1,28 @@
+use Rattle.std.proofs.Common.{◌<◌, length, sym, subst}
+use Rattle.graph_model.specs.declared.events.Entity.TheVariants.{Node}
+use Rattle.graph_store.specs.Keys.{key_name}
+use Rattle.graph_store.specs.Histories.{updates_in}
+use Rattle.graph_store.specs.Contents.{Contents, name_at}
+use Rattle.graph_store.specs.Kept.{contents}
+use Rattle.graph_store.proofs.Readers.{updates_at, node_in_place}
+use Rattle.graph_store.proofs.HistoryLaws.{IsRead, node_read}
+use Rattle.graph_store.proofs.store.Store.node_history.Goals as goal
+
+pub returns : goal.returns
+returns c =
+    let are = c.self.invariant.contents_are in
+    let lt : c.args.n.0 < length c.self.inside.nodes.names = subst (λ (v : Contents). c.args.n.0 < length v.nodes) (sym c.self.view_is) c.requires in
+    let here = updates_at c.self.inside.node_histories.items c.args.n.0 c.index.result.now (node_in_place (contents c.self.inside) c.self.inside.node_histories.items (updates_in c.self.inside.edge_histories.items) are c.args.n.0 lt) c.index.ensures in
+    let v = contents c.self.inside in
+    let read =
+    subst (λ (v : Contents). IsRead v.model v.bounds v.accepted (key_name v.node_keys) (length v.node_keys) (Node (name_at v.nodes c.args.n.0)) c.index.result.now.updates) c.self.view_is
+    (subst (IsRead v.model v.bounds v.accepted (key_name v.node_keys) (length v.node_keys) (Node (name_at v.nodes c.args.n.0))) here
+    (node_read v (updates_in c.self.inside.node_histories.items) (updates_in c.self.inside.edge_histories.items) are c.self.invariant.judged c.len-keys.ensures.distinct c.args.n.0 lt)) in
+    record {
+      told = read.told;
+      fits = read.fits;
+      keys = read.keys;
+      within = read.within;
+      allowed = read.allowed;
+      whole = read.whole;
+    }

@@ -1,0 +1,32 @@
+-- Edges and pairs of numbered nodes, and the lists that they stand in.
+use Rattle.std.specs.Prelude.{ℕ, List, ◌≡◌, ◌<◌, ◌≤◌, ◌^◌, length}
+use Rattle.std.specs.List.{list_any}
+use Rattle.graph_store.specs.declared.pairs.Ends.{Ends}
+use Rattle.graph_store.specs.declared.edges.EdgeParts.{EdgeParts}
+use Rattle.graph_store.specs.Places.{places}
+use Rattle.graph_store.specs.Ends.{same_ends, ends_at}
+use Rattle.graph_store.specs.Parts.{ends_of, parts_at}
+use Rattle.graph_store.specs.Paired.{Paired}
+use Rattle.link_chain.specs.Chains.{items_at, link_count}
+
+-- how many nodes there are, the edges and the pairs in the order of their numbers, and how many more nodes and edges need no memory
+pub record Linked : Type 0 where
+  pub nodes : ℕ
+  pub edges : List EdgeParts
+  pub pairs : List Ends
+  pub spare_nodes : ℕ
+  pub spare_edges : ℕ
+
+-- the numbers of the edges with these ends
+abbrev pub edges_between : List EdgeParts → Ends → List ℕ
+edges_between edges ends = places (λ (e : EdgeParts). same_ends ends (ends_of e)) edges
+
+-- the ends of the edges are the pairs, and one chain for each pair has its edges
+pub record AreLinked (edges : List EdgeParts) (paired : Paired) (chains : List (List (ℕ × ℕ))) : Type 0 where
+  pub few : length edges < 2 ^ 32
+  pub few_pairs : length paired.pairs ≤ length edges
+  pub heads : length chains ≡ length paired.pairs
+  pub links : link_count chains ≡ length edges
+  pub known : (ends : Ends) → list_any (same_ends ends) paired.pairs ≡ list_any (λ (e : EdgeParts). same_ends ends (ends_of e)) edges
+  pub between : (pair : ℕ) → pair < length paired.pairs → items_at chains pair ≡ edges_between edges (ends_at paired.pairs pair)
+  pub within : (e : ℕ) → e < length edges → ((parts_at edges e).src < paired.nodes) × ((parts_at edges e).dst < paired.nodes)

@@ -1,0 +1,246 @@
+//! Edges between nodes, numbered, and linked by their pairs.
+ghost use Rattle.std.specs.Prelude.{◌≡◌, ℕ, ◌+◌, ◌-◌, ◌^◌, ◌<◌, ◌≤◌, List, [], ◌∷◌, ◌++◌, Some, is_some, false, if◌then◌else◌, position, length, slice_get, OnOk};
+ghost use Rattle.std.specs.List.{IsDistinct, list_any};
+ghost use Rattle.indexmap.specs.IndexSet.{insert_key};
+ghost use Rattle.link_chain.specs.Chains.{link_count, items_at};
+ghost use Rattle.graph_store.specs.Ends.{same_ends, ends_at};
+ghost use Rattle.graph_store.specs.Paired.{pairs_from, pairs_to};
+
+use crate::pairs::{Ends, PairTable};
+use crate::walks::LinkWalk;
+use graph_model::Memory;
+use indexmap::IndexSet;
+use link_chain::Chains;
+use std::alloc::Global;
+use std::marker::Model;
+
+/// An edge, by the numbers of its source, its destination and its layer.
+#[derive(Clone, Copy, Eq, Hash)]
+pub struct EdgeParts {
+    pub src: u32,
+    pub dst: u32,
+    pub layer: u8,
+}
+
+impl PartialEq for EdgeParts {
+    ghost use Rattle.std.proofs.Common.{rules};
+    ghost use Rattle.std.specs.Cmp.Rules.{comparing};
+    ghost use Rattle.graph_store.specs.Parts.{same_parts};
+
+    ghost eq = { same_parts };
+
+    ghost laws = { Prim.search (comparing, rules) };
+
+    fn eq(&self, other: &EdgeParts) -> bool {
+        self.src == other.src && self.dst == other.dst && self.layer == other.layer
+    }
+}
+
+impl EdgeParts {
+    ghost use Rattle.graph_store.specs.Parts.{ends_of};
+
+    /// The pair that the edge belongs to.
+    pub fn ends(self) -> Ends
+        ensures { result ≡ ends_of self }
+    {
+        Ends {
+            src: self.src,
+            dst: self.dst,
+        }
+    }
+}
+
+/// Distinct edges between numbered nodes, and their pairs. An edge stands in the chain of its pair,
+/// so a walk over the edges of a pair takes no memory.
+#[derive(Drop)]
+pub struct EdgeTable {
+    parts: IndexSet<EdgeParts>,
+    pairs: PairTable,
+    of_pair: Chains,
+}
+
+impl Model for EdgeTable {
+    ghost use Rattle.std.specs.Prelude.{min};
+    ghost use Rattle.indexmap.specs.IndexSet.{spare};
+    ghost use Rattle.graph_store.specs.Linked.{Linked, AreLinked};
+
+    ghost Value = { Linked };
+
+    ghost view = { λ t. record {
+      nodes = t.pairs.nodes;
+      edges = t.parts.keys;
+      pairs = t.pairs.pairs;
+      spare_nodes = t.pairs.spare_nodes;
+      spare_edges = min (min (spare t.parts) t.pairs.spare_pairs) (min t.of_pair.spare_heads t.of_pair.spare_links);
+    } };
+
+    ghost invariant = { λ t. AreLinked t.parts.keys t.pairs t.of_pair.lists };
+}
+
+/// The number of a pair, which is new or known.
+fn number_of_pair(pairs: &mut PairTable, of_pair: &mut Chains, ends: Ends) -> u32
+    requires src { ends.src < pairs.old.nodes }
+    requires dst { ends.dst < pairs.old.nodes }
+    requires heads { length of_pair.old.lists ≡ length pairs.old.pairs }
+    requires few { length pairs.old.pairs < 2 ^ 32 - 1 }
+    requires room { 0 < pairs.old.spare_pairs }
+    requires head_room { 0 < of_pair.old.spare_heads }
+    ensures nodes { pairs.new.nodes ≡ pairs.old.nodes }
+    ensures pairs { pairs.new.pairs ≡ insert_key same_ends pairs.old.pairs ends }
+    ensures within { result < length pairs.new.pairs }
+    ensures number { ends_at pairs.new.pairs result ≡ ends }
+    ensures chains { of_pair.new.lists ≡ (if list_any (same_ends ends) pairs.old.pairs then of_pair.old.lists else of_pair.old.lists ++ [] ∷ []) }
+    ensures distinct { IsDistinct same_ends pairs.new.pairs }
+    ensures spare_nodes { pairs.old.spare_nodes ≤ pairs.new.spare_nodes }
+    ensures spare_links { of_pair.new.spare_links ≡ of_pair.old.spare_links }
+{
+    let _count = pairs.len();
+    if let Some(pair) = pairs.find(ends) {
+        return pair;
+    }
+    let pair = pairs.add(ends);
+    let _ = of_pair.add_head();
+    let _count = pairs.len();
+    pair
+}
+
+impl EdgeTable {
+    ghost use Rattle.graph_store.specs.Parts.{same_parts, ends_of, parts_at};
+    ghost use Rattle.graph_store.specs.Linked.{edges_between};
+
+    /// No node and no edge. It takes no memory.
+    pub fn new(alloc: Global) -> EdgeTable
+        ensures nodes { result.nodes ≡ 0 }
+        ensures edges { result.edges ≡ [] }
+        ensures pairs { result.pairs ≡ [] }
+    {
+        EdgeTable {
+            parts: IndexSet::new(alloc),
+            pairs: PairTable::new(alloc),
+            of_pair: Chains::new(alloc),
+        }
+    }
+
+    /// How many edges there are.
+    pub fn len(&self) -> u32
+        ensures len { result ≡ length self.now.edges }
+        ensures distinct { IsDistinct same_parts self.now.edges }
+        ensures within { (e : ℕ) → e < length self.now.edges → ((parts_at self.now.edges e).src < self.now.nodes) × ((parts_at self.now.edges e).dst < self.now.nodes) }
+        ensures known { (ends : Ends) → list_any (same_ends ends) self.now.pairs ≡ list_any (λ (e : EdgeParts). same_ends ends (ends_of e)) self.now.edges }
+    {
+        self.parts.len() as u32
+    }
+
+    /// How many pairs there are.
+    pub fn pairs(&self) -> u32
+        ensures len { result ≡ length self.now.pairs }
+        ensures distinct { IsDistinct same_ends self.now.pairs }
+    {
+        self.pairs.len()
+    }
+
+    /// The number of an edge.
+    pub fn find(&self, parts: EdgeParts) -> Option<u32>
+        ensures place { result ≡ position (same_parts parts) self.now.edges }
+        ensures known { is_some result ≡ list_any (same_parts parts) self.now.edges }
+    {
+        match self.parts.get_index_of(&parts) {
+            Some(place) => Some(place as u32),
+            None => None,
+        }
+    }
+
+    /// The number of a pair.
+    pub fn find_pair(&self, ends: Ends) -> Option<u32>
+        ensures place { result ≡ position (same_ends ends) self.now.pairs }
+        ensures known { is_some result ≡ list_any (λ (e : EdgeParts). same_ends ends (ends_of e)) self.now.edges }
+    {
+        self.pairs.find(ends)
+    }
+
+    /// The parts of an edge.
+    pub fn parts_of(&self, edge: u32) -> EdgeParts
+        requires { edge < length self.now.edges }
+        ensures { slice_get self.now.edges edge ≡ Some result }
+    {
+        self.parts[edge as usize]
+    }
+
+    /// The ends of a pair.
+    pub fn pair_ends(&self, pair: u32) -> Ends
+        requires { pair < length self.now.pairs }
+        ensures { slice_get self.now.pairs pair ≡ Some result }
+    {
+        self.pairs.ends_of(pair)
+    }
+
+    /// Makes room for so many more nodes and edges.
+    pub fn reserve(&mut self, nodes: u32, edges: u32) -> Result<(), Memory>
+        ensures nodes { self.new.nodes ≡ self.old.nodes }
+        ensures edges { self.new.edges ≡ self.old.edges }
+        ensures pairs { self.new.pairs ≡ self.old.pairs }
+        ensures room_for_nodes { OnOk result (nodes ≤ self.new.spare_nodes) }
+        ensures room_for_edges { OnOk result (edges ≤ self.new.spare_edges) }
+    {
+        self.parts.reserve(edges as usize)?;
+        self.pairs.reserve(nodes, edges)?;
+        self.of_pair.reserve(edges, edges)
+    }
+
+    /// One more node, with no edge.
+    pub fn add_node(&mut self)
+        requires few { self.old.nodes < 2 ^ 32 - 1 }
+        requires room { 0 < self.old.spare_nodes }
+        ensures nodes { self.new.nodes ≡ self.old.nodes + 1 }
+        ensures edges { self.new.edges ≡ self.old.edges }
+        ensures pairs { self.new.pairs ≡ self.old.pairs }
+        ensures spare_nodes { self.old.spare_nodes ≤ self.new.spare_nodes + 1 }
+        ensures spare_edges { self.old.spare_edges ≤ self.new.spare_edges }
+    {
+        self.pairs.add_node();
+    }
+
+    /// The number of a new edge. Its pair is new or known.
+    pub fn add(&mut self, parts: EdgeParts) -> u32
+        requires new { list_any (same_parts parts) self.old.edges ≡ false }
+        requires src { parts.src < self.old.nodes }
+        requires dst { parts.dst < self.old.nodes }
+        requires few { length self.old.edges < 2 ^ 32 - 1 }
+        requires room { 0 < self.old.spare_edges }
+        ensures number { result ≡ length self.old.edges }
+        ensures nodes { self.new.nodes ≡ self.old.nodes }
+        ensures edges { self.new.edges ≡ self.old.edges ++ parts ∷ [] }
+        ensures pairs { self.new.pairs ≡ insert_key same_ends self.old.pairs (ends_of parts) }
+        ensures spare_nodes { self.old.spare_nodes ≤ self.new.spare_nodes }
+    {
+        let edge = self.parts.len() as u32;
+        let pair = number_of_pair(&mut self.pairs, &mut self.of_pair, parts.ends());
+        let _ = self.parts.insert(parts);
+        let _ = self.of_pair.append(pair, edge);
+        edge
+    }
+
+    /// The pairs that begin at a node.
+    pub fn begin_at(&self, node: u32) -> LinkWalk<'_>
+        requires { node < self.now.nodes }
+        ensures { result ≡ pairs_from self.now.pairs node }
+    {
+        self.pairs.begin_at(node)
+    }
+
+    /// The pairs that end at a node.
+    pub fn end_at(&self, node: u32) -> LinkWalk<'_>
+        requires { node < self.now.nodes }
+        ensures { result ≡ pairs_to self.now.pairs node }
+    {
+        self.pairs.end_at(node)
+    }
+
+    /// The edges of a pair.
+    pub fn edges_of(&self, pair: u32) -> LinkWalk<'_>
+        requires { pair < length self.now.pairs }
+        ensures { result ≡ edges_between self.now.edges (ends_at self.now.pairs pair) }
+    {
+        LinkWalk::along(&self.of_pair, pair)
+    }
+}

@@ -1,0 +1,116 @@
+//! Why an event is refused.
+ghost use Rattle.std.specs.Prelude.{◌≡◌, ℕ, ◌+◌, ◌-◌, ◌^◌, ◌<◌, option_map, length};
+ghost use Rattle.std.specs.List.{find};
+ghost use Rattle.indexmap.specs.IndexSet.{insert_key};
+ghost use Rattle.graph_model.specs.Names.{same_name};
+ghost use Rattle.graph_model.specs.World.{allows};
+ghost use Rattle.graph_model.specs.Accepting.{all_counted};
+ghost use Rattle.graph_store.specs.Judged.{counted, is_above};
+
+use graph_model::{Event, Model, Name, ValueType, What};
+use name_intern::NameTable;
+
+/// What there are limits for, in the order in which they are looked at.
+#[derive(Clone, Copy, Debug, PartialEq, Eq)]
+pub enum Count {
+    /// Accepted events, 4,194,304 at the most.
+    Events,
+    /// Nodes that events or types name, 1,048,576 at the most.
+    Nodes,
+    /// Layers, 64 at the most.
+    Layers,
+    /// Keys of nodes, 256 at the most.
+    NodeKeys,
+    /// Keys of edges, 256 at the most.
+    EdgeKeys,
+    /// Names of types, 4,096 at the most.
+    Types,
+}
+
+/// Why an event or a type of a node is refused, in the order in which it is judged.
+#[derive(Drop)]
+pub enum StoreRefusal {
+    /// The event is a deletion, and the model has none.
+    Deletion,
+    /// A key keeps another type than its value has. It is the first such key by its bytes.
+    KeyType { kept: ValueType, given: ValueType },
+    /// The node has another type, which has this number.
+    Retype { kept: u32 },
+    /// There would be too many of these.
+    Limit(Count),
+    /// There is no memory.
+    Memory,
+}
+
+/// How many events, nodes, layers, keys and names of types there are.
+#[derive(Clone, Copy)]
+pub struct Totals {
+    pub events: u32,
+    pub nodes: u32,
+    pub layers: u32,
+    pub node_keys: usize,
+    pub edge_keys: usize,
+    pub types: u32,
+}
+
+/// The first of which there are too many.
+pub fn first_above(totals: Totals) -> Option<Count>
+    ensures { option_map counted result ≡ find (is_above totals) all_counted }
+{
+    if totals.events > 4194304 {
+        return Some(Count::Events);
+    }
+    if totals.nodes > 1048576 {
+        return Some(Count::Nodes);
+    }
+    if totals.layers > 64 {
+        return Some(Count::Layers);
+    }
+    if totals.node_keys > 256 {
+        return Some(Count::NodeKeys);
+    }
+    if totals.edge_keys > 256 {
+        return Some(Count::EdgeKeys);
+    }
+    if totals.types > 4096 {
+        return Some(Count::Types);
+    }
+    None
+}
+
+/// Whether a model has an event's kind.
+pub fn is_allowed(model: Model, event: &Event) -> bool
+    ensures { result ≡ allows model event.now }
+{
+    match (model, &event.what) {
+        (Model::Event, What::Delete(_)) => false,
+        _ => true,
+    }
+}
+
+/// How many names there would be with one that is new or known.
+pub fn count_with(names: &NameTable, name: &Name) -> u32
+    requires { length names.now.names < 2 ^ 32 - 1 }
+    ensures { result ≡ length (insert_key same_name names.now.names name.now) }
+{
+    let known = names.len();
+    match names.find(name) {
+        Some(_) => known,
+        None => known + 1,
+    }
+}
+
+/// How many names there would be with two that are new or known.
+pub fn count_with_both(names: &NameTable, first: &Name, second: &Name) -> u32
+    requires { length names.now.names < 2 ^ 32 - 2 }
+    ensures { result ≡ length (insert_key same_name (insert_key same_name names.now.names first.now) second.now) }
+{
+    let known = count_with(names, first);
+    if *first == *second {
+        return known;
+    }
+    match names.find(second) {
+        Some(_) => known,
+        None => known + 1,
+    }
+}
