@@ -1,0 +1,98 @@
+-- The present nodes of a store, sorted by name.
+use Rattle.std.proofs.Common.{◌≡◌, ℕ, zero, suc, ◌+◌, ◌<◌, Bool, true, false, ◌&&◌, List, [], ◌∷◌, ◌++◌, length, map, take, get_or, refl, sym, ◌∙◌, ap, subst, arith}
+use Rattle.std.specs.Prelude.{IsPermutation, IsSortedBy, is_some}
+use Rattle.std.specs.List.{filter, list_any, IsDistinct, AllByRecursion}
+use Rattle.std.specs.declared.cmp.Ordering.{Ordering}
+use Rattle.std.specs.declared.cmp.Ordering.TheVariants.{Less, Equal, Greater}
+use Rattle.std.specs.Ordering.{is_eq, is_lt, ordering_reverse}
+use Rattle.std.proofs.lemmas.Bool.{and_parts, and_from, or_left}
+use Rattle.std.proofs.lemmas.List.{take_more}
+use Rattle.std.proofs.lemmas.List.Elements.{filter-append}
+use Rattle.std.proofs.lemmas.List.MinMax.{ranks_by}
+use Rattle.std.proofs.lemmas.List.Sorted.{sorted_far, list_any-IsPermutation}
+use Rattle.std.proofs.lemmas.Map.Keys.{IsDistinct-head, IsDistinct-tail, IsDistinct-cons, IsDistinct-from_apart, IsDistinct-IsPermutation, apart_from_distinct}
+use Rattle.std.proofs.lemmas.Map.Made.{is_member-filter}
+use Rattle.graph_model.specs.Names.{name_cmp, same_name, name_equiv, name_total}
+use Rattle.graph_model.specs.Rising.{Rises}
+use Rattle.graph_model.specs.Entity.{entities, entity_of, involves, names_in}
+use Rattle.graph_model.specs.World.{World, event_cmp, named as named_by, type_of}
+use Rattle.graph_model.specs.Presence.{node_present, nodes}
+use Rattle.world_laws.proofs.Order.{name_exact, same_name-exact}
+use Rattle.world_laws.proofs.Members.{any_entities, any_flat_map, both_true, named, nodes_has, nodes_rise}
+use Rattle.world_laws.proofs.RisingFixed.{any_in_order, rising_fixed}
+use Rattle.graph_store.specs.Contents.{Contents, base_of, name_at}
+use Rattle.graph_store.specs.Indexed.{IsIndexed}
+use Rattle.graph_store.proofs.EdgeNames.{each_from}
+use Rattle.walk_algorithms.proofs.Numbers.{any_map, distinct_filter}
+
+rises_from : {X : Type 0} (cmp : X → X → Ordering) (xs : List X) → ((i j : ℕ) (d : X) → i < j → j < length xs → cmp (get_or xs i d) (get_or xs j d) ≡ Less) → Rises cmp xs
+rises_from cmp [] h = tt
+rises_from cmp (x ∷ xs) h = (each_from (λ y. cmp x y ≡ Less) xs x (λ j below. h zero (suc j) x (omega arith) (omega arith)), rises_from cmp xs (λ i j d less below. h (suc i) (suc j) d (omega arith) (omega arith)))
+
+module _ {X : Type 0} (key : X → List ℕ) where
+  by_key : X → X → Ordering
+  by_key x y = name_cmp (key x) (key y)
+
+  same_key : X → X → Bool
+  same_key x y = same_name (key x) (key y)
+
+  rises_keys : (xs : List X) → Rises by_key xs → Rises name_cmp (map key xs)
+  unfolding by_key
+  rises_keys [] h = tt
+  rises_keys (x ∷ xs) h = (each xs h.0, rises_keys xs h.1)
+    where
+      each : (ys : List X) → AllByRecursion (λ y. name_cmp (key x) (key y) ≡ Less) ys → AllByRecursion (λ y. name_cmp (key x) y ≡ Less) (map key ys)
+      each [] k = tt
+      each (y ∷ ys) k = (k.0, each ys k.1)
+
+  distinct_keys : (xs : List X) → IsDistinct same_name (map key xs) → IsDistinct same_key xs
+  unfolding same_key
+  distinct_keys [] h = IsDistinct-from_apart same_key [] (λ i j d less below. absurd (omega arith))
+  distinct_keys (x ∷ xs) h = IsDistinct-cons same_key x xs (each xs (IsDistinct-head same_name (key x) (map key xs) h)) (distinct_keys xs (IsDistinct-tail same_name (key x) (map key xs) h))
+    where
+      each : (ys : List X) → AllByRecursion (λ y. same_name (key x) y ≡ false) (map key ys) → AllByRecursion (λ y. same_name (key x) (key y) ≡ false) ys
+      each [] k = tt
+      each (y ∷ ys) k = (k.0, each ys k.1)
+
+  -- items with distinct keys that do not fall rise
+  rises_sorted : (xs : List X) → IsDistinct same_key xs → IsSortedBy (λ x y. is_lt (name_cmp (key x) (key y))) xs → Rises by_key xs
+  unfolding by_key same_key
+  rises_sorted xs once sorted = rises_from by_key xs (λ i j d less below.
+      let apart : same_name (key (get_or xs i d)) (key (get_or xs j d)) ≡ false = apart_from_distinct same_key xs i j d once less below in
+      let up : is_lt (name_cmp (key (get_or xs j d)) (key (get_or xs i d))) ≡ false = sorted_far (λ x y. is_lt (name_cmp (key x) (key y))) (ranks_by name_total key) xs sorted i j d (omega arith) below in
+      less_from (name_cmp (key (get_or xs i d)) (key (get_or xs j d))) (name_cmp (key (get_or xs j d)) (key (get_or xs i d))) (name_total.antisymm (key (get_or xs j d)) (key (get_or xs i d))) apart up)
+    where
+      less_from : (o p : Ordering) → p ≡ ordering_reverse o → is_eq o ≡ false → is_lt p ≡ false → o ≡ Less
+      less_from Less p e apart up = refl
+      less_from Equal p e apart up = cc
+      less_from Greater p e apart up = cc (rw e at up)
+
+  -- the keys of a sorted permutation of items with the names of some distinct nodes that are present, and all that are
+  pub sorted_nodes : (w : World) (names : List (List ℕ)) → IsDistinct same_name names → ((b : List ℕ) → node_present w b ≡ true → list_any (same_name b) names ≡ true) → (xs ys : List X) → map key xs ≡ filter (node_present w) names
+      → IsPermutation xs ys → IsSortedBy (λ x y. is_lt (name_cmp (key x) (key y))) ys → map key ys ≡ nodes w
+  unfolding same_key
+  sorted_nodes w names once known xs ys is moved sorted =
+      let apart : IsDistinct same_key xs = distinct_keys xs (subst (IsDistinct same_name) (sym is) (distinct_filter same_name (node_present w) names once)) in
+      let still : IsDistinct same_key ys = IsDistinct-IsPermutation same_key (λ x y. name_equiv.symm (key x) (key y)) xs ys moved apart in
+      rising_fixed name_cmp name_total name_exact (map key ys) (nodes w) (rises_keys ys (rises_sorted ys still sorted)) (nodes_rise w)
+      (λ b. any_map (same_name b) key ys
+      ∙ (sym (list_any-IsPermutation (λ x. same_name b (key x)) xs ys moved)
+      ∙ (sym (any_map (same_name b) key xs)
+      ∙ (ap (list_any (same_name b)) is
+      ∙ (is_member-filter name_equiv (node_present w) b (λ x e. ap (node_present w) (same_name-exact b x e)) names
+      ∙ (both_true (list_any (same_name b) names && node_present w b) (node_present w b) (λ e. (and_parts (list_any (same_name b) names) (node_present w b) e).1) (λ e. and_from (list_any (same_name b) names) (node_present w b) (known b e) e)
+      ∙ sym (nodes_has w b)))))))
+
+-- a present node of the base world has a number
+pub present_known : (c : Contents) → IsIndexed c → (b : List ℕ) → node_present (base_of c) b ≡ true → list_any (same_name b) c.nodes ≡ true
+present_known c indexed b h =
+    indexed.known_nodes b
+    ∙ or_left (named_by c.accepted b) (is_some (type_of c.types b))
+    (sym (any_in_order event_cmp (λ x. involves b (entity_of x)) c.accepted)
+    ∙ (sym (any_entities (λ e. list_any (same_name b) (names_in e)) (base_of c).events)
+    ∙ (sym (any_flat_map (same_name b) names_in (entities (base_of c).events))
+    ∙ named (base_of c) b h)))
+
+-- one more name
+pub filter_more : (p : List ℕ → Bool) (names : List (List ℕ)) (i : ℕ) → i < length names → filter p (take (i + 1) names) ≡ filter p (take i names) ++ filter p (name_at names i ∷ [])
+filter_more p names i below = ap (filter p) (take_more names i [] below) ∙ filter-append p (take i names) (name_at names i ∷ [])
