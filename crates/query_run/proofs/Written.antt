@@ -1,16 +1,21 @@
 -- Rows that were written one after another, and the blocks that they are.
-use Rattle.std.proofs.Common.{◌≡◌, ◌∙◌, ◌++◌, ◌∷◌, ◌+◌, ◌<◌, [], ℕ, Bool, true, false, List, None, length, drop, get_or, map, refl, sym, ap, append_assoc}
+use Rattle.std.proofs.Common.{◌≡◌, ◌∙◌, ◌++◌, ◌∷◌, ◌+◌, ◌<◌, [], ℕ, Bool, true, false, List, None, length, drop, get_or, map, refl, sym, ap, append_assoc, subst}
 use Rattle.std.proofs.lemmas.List.{drop_more, length-map}
+use Rattle.std.proofs.lemmas.List.Elements.{All-get_or}
 use Rattle.std.proofs.lemmas.Simd.{map-map}
 use Rattle.std.proofs.lemmas.Grind.{flat_map-append}
-use Rattle.std.specs.Prelude.{Ok, Err, if◌then◌else◌}
+use Rattle.std.specs.Prelude.{OnOk, Result, Ok, Err, Some, slice_get, All, if◌then◌else◌}
+use Rattle.std.proofs.lemmas.Option.{get_or_from_slice_get, slice_get_within}
 use Rattle.csv.specs.Writing.{default_writer, row_text}
 use Rattle.graph_model.specs.declared.queries.Ask.TheVariants.{Degree}
 use Rattle.graph_model.specs.World.{World}
 use Rattle.graph_model.specs.Presence.{nodes}
 use Rattle.graph_model.specs.Answer.{degree_row, row_fields}
 use Rattle.graph_model.specs.RowText.{rows_text}
-use Rattle.graph_model.specs.Reading.{Unbuilt as RecordUnbuilt}
+use Rattle.graph_model.specs.Refusal.{RecordRefusal}
+use Rattle.graph_store.specs.Contents.{Contents, base_of}
+use Rattle.walk_algorithms.specs.Degrees.{degree_row_of}
+use Rattle.walk_algorithms.specs.declared.degree_rows.Degree.{Degree as Degreed}
 use Rattle.graph_model.specs.Script.{Unbuilt, asks_degrees, is_blank}
 use Rattle.graph_model.specs.Output.{AreBlocks, IsBlock, IsBlockOf, IsPart, refused_row, world_row}
 use Rattle.world_laws.proofs.Answers.{answer_degree}
@@ -28,12 +33,36 @@ pub rows_text-front : (first second : List (List ℕ)) (rows : List (List (List 
     → two ++ rows_text rows ≡ old ++ rows_text (first ∷ second ∷ rows)
 rows_text-front first second rows old one two e f = rw (f, e) (simp append_assoc)
 
+-- rows that are written behind those in front of them
+pub rows_text-behind : {T E : Type 0} (written : Result T E) (rows all : List (List (List ℕ))) (old front after : List ℕ) → front ++ rows_text rows ≡ old ++ rows_text all
+    → OnOk written (after ≡ front ++ rows_text rows) → OnOk written (after ≡ old ++ rows_text all)
+rows_text-behind (Ok x) rows all old front after block is = is ∙ block
+rows_text-behind (Err e) rows all old front after block is = tt
+
 -- the rows of refused records, that of the graph, and the blocks
-pub rows_text-whole : (refused : List ℕ) (graph : List (List ℕ)) (blocks : List (List (List ℕ))) (none first second all : List ℕ) → none ≡ []
-    → first ≡ none ++ rows_text (map (λ n. refused_row (n, RecordUnbuilt)) refused) → second ≡ first ++ row_text default_writer graph → all ≡ second ++ rows_text blocks
-    → all ≡ rows_text (map refused_row (map (λ n. (n, RecordUnbuilt)) refused) ++ (graph ∷ blocks))
-rows_text-whole refused graph blocks none first second all empty e f g =
-    rw (g, f, e, empty, append_assoc, map-map refused_row (λ n. (n, RecordUnbuilt)) refused) (sym (flat_map-append (row_text default_writer) (map (λ n. refused_row (n, RecordUnbuilt)) refused) (graph ∷ blocks)))
+pub rows_text-whole : {X : Type 0} (said : X → ℕ × RecordRefusal) (refused : List X) (graph : List (List ℕ)) (blocks : List (List (List ℕ))) (none first second all : List ℕ) → none ≡ []
+    → first ≡ none ++ rows_text (map (λ r. refused_row (said r)) refused) → second ≡ first ++ row_text default_writer graph → all ≡ second ++ rows_text blocks
+    → all ≡ rows_text (map refused_row (map said refused) ++ (graph ∷ blocks))
+rows_text-whole said refused graph blocks none first second all empty e f g =
+    rw (g, f, e, empty, append_assoc, map-map refused_row said refused) (sym (flat_map-append (row_text default_writer) (map (λ r. refused_row (said r)) refused) (graph ∷ blocks)))
+
+-- the row of an item at a place, and those of the items behind it
+pub rows_text-got : {X : Type 0} (f : X → List (List ℕ)) (xs : List X) (i : ℕ) (x : X) (before after : List ℕ) → slice_get xs i ≡ Some x
+    → after ≡ before ++ row_text default_writer (f x) → after ++ rows_text (map f (drop (i + 1) xs)) ≡ before ++ rows_text (map f (drop i xs))
+rows_text-got f xs i x before after got written =
+    rows_text-step f xs i x before after (slice_get_within xs i x got) (sym (get_or_from_slice_get xs i x x got)) written
+
+-- what holds of each item holds of the one at a place
+pub all-got : {X : Type 0} (P : X → Type 0) (xs : List X) (i : ℕ) (x : X) → All P xs → slice_get xs i ≡ Some x → P x
+all-got P xs i x all got = subst P (get_or_from_slice_get xs i x x got) (All-get_or P xs i x (slice_get_within xs i x got) all)
+
+-- the rows of numbered nodes are those of the nodes that the numbers name
+pub degree_rows-named : (c : Contents) (rows : List Degreed) → map (degree_row_of c) rows ≡ map (degree_row (base_of c)) (nodes (base_of c))
+    → (map (λ d. row_fields (degree_row_of c d)) rows ≡ degree_rows (base_of c)) × (length rows ≡ length (nodes (base_of c)))
+degree_rows-named c rows same = (
+  sym (map-map row_fields (degree_row_of c) rows) ∙ ap (map row_fields) same ∙ map-map row_fields (degree_row (base_of c)) (nodes (base_of c)),
+  sym (length-map rows (degree_row_of c)) ∙ ap length same ∙ length-map (nodes (base_of c)) (degree_row (base_of c)),
+)
 
 -- the part of a world of a question for degrees
 degree-part : (w : World) → IsPart w Degree (world_row w.bounds (length (nodes w)) ∷ degree_rows w)

@@ -1,4 +1,6 @@
-pub mod Plain
+pub mod Causes
+pub mod Told
+pub mod Cost
 pub mod Rows
 pub mod Runs
 pub mod Commands

@@ -5,16 +5,13 @@ use Rattle.graph_model.specs.declared.queries.Query.{Query}
 use Rattle.graph_model.specs.World.{World}
 use Rattle.graph_model.specs.Presence.{nodes}
 use Rattle.graph_model.specs.Answer.{degree_row, row_fields}
-use Rattle.graph_model.specs.Reading as Read
-use Rattle.graph_model.specs.Reading.{RecordRefusal, Unbuilt}
-use Rattle.graph_model.specs.Script.{QueryRefusal, is_blank, query_of}
-use Rattle.graph_model.specs.Output.{query_row, refused_query_row, world_row}
-use Rattle.graph_model.specs.Interval.{earliest, latest}
-use Rattle.query_run.specs.declared.reading.Accepted.{Accepted}
-
--- what was read of a file of plain edges
-abbrev pub told : Accepted → Read.Reading
-told a = record { bounds = record { lo = earliest; hi = latest }; accepted = a.events; types = []; refused = map (λ n. (n, Unbuilt)) a.refused.items }
+use Rattle.graph_model.specs.Script.{QueryRefusal, is_blank, lines_of, query_of}
+use Rattle.graph_model.specs.declared.events.Model.TheVariants.{Event as Instants}
+use Rattle.graph_model.specs.RowText.{rows_text}
+use Rattle.graph_model.specs.Output.{graph_row, query_row, refused_query_row, refused_row, world_row}
+use Rattle.graph_store.specs.Contents.{base_of}
+use Rattle.query_run.specs.Told.{told}
+use Rattle.query_run.specs.declared.reading.FileReading.{FileReading}
 
 -- the rows of degrees
 abbrev pub degree_rows : World → List (List (List ℕ))
@@ -41,3 +38,8 @@ line_block w number line = block_of w number (is_blank line) (query_of line)
 abbrev pub line_blocks : World → ℕ → List (List ℕ) → List (List (List ℕ))
 line_blocks w number [] = []
 line_blocks w number (line ∷ lines) = line_block w number line ++ line_blocks w (number + 1) lines
+
+-- the text for what was read of an events file, and a script
+abbrev pub output_text : FileReading → List ℕ → List ℕ
+output_text read script = let r = told read in
+    rows_text (map refused_row r.refused ++ (graph_row Instants r.bounds (length r.accepted) (length r.refused) ∷ line_blocks (base_of read.store) 1 (lines_of script)))

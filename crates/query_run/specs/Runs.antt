@@ -4,7 +4,9 @@ use Rattle.std.specs.Io.KnownBytes.{append_known}
 use Rattle.graph_model.specs.declared.events.Model.{Model}
 use Rattle.graph_model.specs.Command.{Command, Files}
 use Rattle.graph_model.specs.Output.{IsOutput, is_clean}
+use Rattle.graph_model.specs.Reading.{reading}
 use Rattle.outside_io.specs.Outside.{IsLonger, IsMissing, bytes_of}
+use Rattle.query_run.specs.Cost.{most_steps}
 use Rattle.query_run.specs.declared.top.Which.{Which}
 use Rattle.query_run.specs.declared.top.Which.TheVariants.{Events, Script}
 use Rattle.query_run.specs.declared.top.Status.{Status}
@@ -92,3 +94,18 @@ IsOver which begun_before begun given = (begun ≡ (begun_before + place_of whic
 -- the words are no command, or a file that they name is missing
 abbrev pub IsAmiss : Option Command → Option (List (List ℕ × List ℕ)) → Type 0
 IsAmiss command files = (command ≡ None) ⊎ (Misses command files Events ⊎ Misses command files Script)
+
+-- at most so many readings of stored times for an events file and a script; what questions for degrees cost is none
+abbrev pub counted_steps : Model → List ℕ → List ℕ → ℕ
+counted_steps model events script = most_steps (length (reading model events).accepted)
+
+-- how many steps a run adds: none where the words are no command or a file is missing, and no more than the files ask for where both are told
+abbrev pub AddsUpTo : Model → Option (List ℕ) → Option (List ℕ) → ℕ → ℕ → Type 0
+AddsUpTo model None script old new = new ≡ old
+AddsUpTo model (Some events) None old new = new ≡ old
+AddsUpTo model (Some events) (Some script) old new = new ≤ old + counted_steps model events script
+
+abbrev pub IsCounted : Option Command → Option (List (List ℕ × List ℕ)) → ℕ → ℕ → Type 0
+IsCounted None files old new = new ≡ old
+IsCounted (Some (Files model events script)) None old new = ⊤
+IsCounted (Some (Files model events script)) (Some files) old new = AddsUpTo model (bytes_of files events) (bytes_of files script) old new

@@ -2,7 +2,7 @@
 #![tactic(auto)]
 
 mod answer;
-mod degrees;
+mod causes;
 mod laws;
 mod lines;
 mod reading;

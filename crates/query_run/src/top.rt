@@ -3,7 +3,7 @@ ghost use Rattle.std.specs.Prelude.{◌≡◌, ◌⊎◌, ◌↔◌, ◌<◌, �
 ghost use Rattle.std.specs.Io.KnownBytes.{IsAtEnd};
 ghost use Rattle.graph_model.specs.Command.{command};
 ghost use Rattle.outside_io.specs.Outside.{Rises};
-ghost use Rattle.query_run.specs.Runs.{HasEvents, IsAmiss, IsAnswered, IsOver, IsTooLong, IsWriting, Misses, Writes};
+ghost use Rattle.query_run.specs.Runs.{HasEvents, IsAmiss, IsAnswered, IsCounted, IsOver, IsTooLong, IsWriting, Misses, Writes};
 
 use crate::answer::answer_files;
 use crate::words::read_words;
@@ -88,7 +88,8 @@ pub fn run<I: Inputs, O: Sink, L: Ledger>(
         ⊎ (IsOver Which.Events (I.begun inputs.old) (I.begun inputs.new) (I.given inputs.new)
         ⊎ IsOver Which.Script (I.begun inputs.old) (I.begun inputs.new) (I.given inputs.new))))) }
 
-    ensures steps { steps.new ≡ steps.old }
+    // Stored times are read no more often than the events ask for, and never where the words are no command.
+    ensures steps { IsCounted (command words.now) (I.files inputs.old) steps.old steps.new }
 {
     let Some(command) = read_words(words) else {
         return Status::Usage;
@@ -105,7 +106,7 @@ pub fn run<I: Inputs, O: Sink, L: Ledger>(
         Err(ReadFault::TooLong) => return Status::TooLong(Which::Script),
         Err(ReadFault::Memory) => return Status::Memory,
     };
-    let Ok(answer) = answer_files(alloc, events.as_slice(), script.as_slice()) else {
+    let Ok(answer) = answer_files(alloc, events.as_slice(), script.as_slice(), steps) else {
         return Status::Memory;
     };
     match write_all(sink, answer.text.as_slice()) {

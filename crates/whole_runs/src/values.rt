@@ -5,6 +5,9 @@ use graph_model::{
 use std::alloc::Global;
 use std::test::Fail;
 
+/// A name that is too long to lie in the value itself.
+const LONG: &str = "a node of a long name that lies in memory of its own";
+
 fn name(alloc: Global, text: &str) -> Result<Name, Fail> {
     Ok(Name::new(alloc, text).ok().ok_or("no name")?)
 }
@@ -30,7 +33,7 @@ fn events(alloc: Global) -> Result<EventList, Fail> {
         ),
     })?;
     let edge = EdgeName {
-        src: name(alloc, "a")?,
+        src: name(alloc, LONG)?,
         dst: name(alloc, "x, \"y\"")?,
         layer: name(alloc, "l")?,
     };
@@ -58,7 +61,7 @@ fn events_are_made_and_copied(rt: HostRuntime) -> Result<(), Fail> {
     assert!(rt; matches!(props.value_at(0), Value::Text(text) if text.as_str() == "hi"));
     let edge = events.item(1).copy()?;
     assert!(rt;
-        matches!(&edge.what, What::Add(edge, _) if edge.dst == *named && edge.src < *named)
+        matches!(&edge.what, What::Add(edge, _) if edge.dst == *named && edge.src < *named && edge.src.as_str() == LONG)
     );
     Ok(())
 }

@@ -1,24 +1,18 @@
-use Rattle.std.proofs.Common.{◌≡◌, ◌∙◌, ap, length, vec_len, rules}
+use Rattle.std.proofs.Common.{◌≡◌, ◌∙◌, ◌∷◌, length}
 use Rattle.graph_model.specs.Presence.{nodes}
 use Rattle.graph_model.specs.declared.queries.Ask.TheVariants.{Degree}
-use Rattle.graph_model.specs.Answer.{degree_row, row_fields}
 use Rattle.graph_model.specs.Output.{query_row, world_row}
-use Rattle.query_run.specs.Plain.{plain_graph}
+use Rattle.graph_store.specs.Contents.{base_of}
 use Rattle.query_run.specs.Rows.{degree_rows}
-use Rattle.query_run.proofs.Written.{rows_text-front, rows_text-step}
+use Rattle.query_run.proofs.Written.{degree_rows-named, rows_text-behind, rows_text-front}
 use Rattle.query_run.proofs.answer.add_answer.Goals as goal
 
-pub loop-node-init : goal.loop-node-init
-loop-node-init c =
-    let w = plain_graph c.args.events.now in
-    let items : c.deref-node-items.result.now ≡ nodes w = c.deref-node-items.ensures.value ∙ c.in_ok-names.ensures in
-    let front = rows_text-front (query_row c.args.line Degree 1) (world_row c.whole.result c.len.result) (degree_rows w) c.args.out.now.items c.add_query.new.out.items c.add_world.new.out.items c.in_ok-add_query.ensures c.in_ok-add_world.ensures in
-    let size : vec_len c.in_ok-names.names ≡ length c.in_ok-names.names.items = search rules in
-    let count : c.len.result ≡ length (nodes w) = c.len.ensures ∙ size ∙ ap length c.in_ok-names.ensures in
-    rw items (rw (c.whole.ensures, count) at front)
-
-pub loop-node-preserved : goal.loop-node-preserved
-loop-node-preserved c =
-    let w = plain_graph c.args.events.now in
-    rows_text-step (λ node. row_fields (degree_row w node)) c.deref-node-items.result.now c.loop-node.node-index c.node-item.result c.loop-node.out.items c.add_node.new.out.items c.loop-node-test.true c.node-item.is c.in_ok-add_node.ensures
-    ∙ c.loop-node.invariant
+pub returns : goal.returns
+returns c =
+    let store = c.args.store.now in
+    let rows = degree_rows (base_of store) in
+    let (named, count) = degree_rows-named store c.in_ok-rows.rows c.in_ok-rows.ensures.rows in
+    let front = rows_text-front (query_row c.args.line Degree 1) (world_row c.bounds.result c.len.result) rows c.args.out.now c.add_query.new.out c.add_world.new.out c.in_ok-add_query.ensures c.in_ok-add_world.ensures in
+    let size : c.len.result ≡ length (nodes (base_of store)) = c.len.ensures ∙ count in
+    let block = rw (c.bounds.ensures, size) at front in
+    rows_text-behind c.add_degrees.result rows (query_row c.args.line Degree 1 ∷ world_row store.bounds (length (nodes (base_of store))) ∷ rows) c.args.out.now c.add_world.new.out c.add_degrees.new.out block (rw named at c.add_degrees.ensures)

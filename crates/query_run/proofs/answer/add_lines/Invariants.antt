@@ -3,13 +3,13 @@ use Rattle.std.specs.List.{list_all}
 use Rattle.graph_model.specs.RowText.{rows_text}
 use Rattle.graph_model.specs.Script.{lines_of}
 use Rattle.graph_model.specs.Output.{is_clean_line}
-use Rattle.query_run.specs.Plain.{plain_graph}
+use Rattle.graph_store.specs.Contents.{base_of}
 use Rattle.query_run.specs.Rows.{line_blocks}
 use Rattle.query_run.proofs.answer.add_lines.Given as goal
 
 abbrev pub invariant-loop-rest : goal.invariant-loop-rest
 invariant-loop-rest l =
-    (l.out.items ++ rows_text (line_blocks (plain_graph l.events) l.number (lines_of l.rest)) ≡ l.fn.out.items ++ rows_text (line_blocks (plain_graph l.events) 1 (lines_of l.script)))
+    (l.out ++ rows_text (line_blocks (base_of l.store) l.number (lines_of l.rest)) ≡ l.fn.out ++ rows_text (line_blocks (base_of l.store) 1 (lines_of l.script)))
     × ((l.clean && list_all is_clean_line (lines_of l.rest)) ≡ list_all is_clean_line (lines_of l.script))
     × (l.number + length l.rest ≤ length l.script + 1)
 
