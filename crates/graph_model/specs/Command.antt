@@ -2,7 +2,7 @@
 use Rattle.std.specs.Prelude.{ℕ, Bool, false, not, ◌==◌, ◌&&◌, List, [], ◌∷◌, length, codes, Option, Some, None, unwrap_or, option_map, if◌then◌else◌}
 use Rattle.std.specs.Str.{bytes_eq}
 use Rattle.graph_model.specs.declared.events.Model.{Model}
-use Rattle.graph_model.specs.declared.events.Model.TheVariants.{Event as Instants}
+use Rattle.graph_model.specs.declared.events.Model.TheVariants.{Event as Instants, Persistent}
 
 -- a command: to answer a script on an events file, under a model
 pub data Command : Type 0 where
@@ -20,7 +20,7 @@ value_of words option = unwrap_or (first_value option words) []
 
 -- the model that a word names
 abbrev pub model_of : List ℕ → Option Model
-model_of word = if bytes_eq word (codes "event") then Some Instants else None
+model_of word = if bytes_eq word (codes "event") then Some Instants else (if bytes_eq word (codes "persistent") then Some Persistent else None)
 
 -- a path is not empty and does not begin with a dash
 abbrev pub is_path : List ℕ → Bool

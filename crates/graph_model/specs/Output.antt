@@ -15,7 +15,8 @@ use Rattle.graph_model.specs.Answer.{Row, row_fields, IsAnswer}
 use Rattle.graph_model.specs.RowText.{rows_text}
 use Rattle.graph_model.specs.Reading.{reading, world_of}
 use Rattle.graph_model.specs.Refusal.{RecordRefusal, record_refusal_name}
-use Rattle.graph_model.specs.Script.{QueryRefusal, query_refusal_name, lines_of, is_blank, query_of}
+use Rattle.graph_model.specs.Script.{QueryRefusal, query_refusal_name, lines_of, is_blank}
+use Rattle.graph_model.specs.QueryLine.{query_of}
 
 abbrev pub model_word : Model → List ℕ
 model_word Instants = codes "event"
@@ -86,24 +87,25 @@ abbrev pub IsBlockOf : World → ℕ → Bool → Result Query QueryRefusal → 
 IsBlockOf w number true query rows = rows ≡ []
 IsBlockOf w number false query rows = IsQueryBlock w number query rows
 
-abbrev pub IsBlock : World → ℕ → List ℕ → List (List (List ℕ)) → Type 0
-IsBlock w number line rows = IsBlockOf w number (is_blank line) (query_of line) rows
+abbrev pub IsBlock : (Query → Bool) → World → ℕ → List ℕ → List (List (List ℕ)) → Type 0
+IsBlock is_answered w number line rows = IsBlockOf w number (is_blank line) (query_of is_answered line) rows
 
 -- the blocks of lines, of which the first has this number
-abbrev pub AreBlocks : World → ℕ → List (List ℕ) → List (List (List ℕ)) → Type 0
-AreBlocks w number [] rows = rows ≡ []
-AreBlocks w number (line ∷ lines) rows = (block rest : List (List (List ℕ))) × IsBlock w number line block × AreBlocks w (number + 1) lines rest × (rows ≡ block ++ rest)
+abbrev pub AreBlocks : (Query → Bool) → World → ℕ → List (List ℕ) → List (List (List ℕ)) → Type 0
+AreBlocks is_answered w number [] rows = rows ≡ []
+AreBlocks is_answered w number (line ∷ lines) rows = (block rest : List (List (List ℕ))) × IsBlock is_answered w number line block
+    × AreBlocks is_answered w (number + 1) lines rest × (rows ≡ block ++ rest)
 
--- the output: the rows of refused records, the row of the graph, and the block of each line
-unfoldable pub IsOutput : Model → List ℕ → List ℕ → List ℕ → Type 0
-IsOutput model events script text = let r = reading model events in
-    (blocks : List (List (List ℕ))) × AreBlocks (world_of model r) 1 (lines_of script) blocks
+-- the output, where these queries are answered: the rows of refused records, the row of the graph, and the block of each line
+unfoldable pub IsOutput : (Query → Bool) → Model → List ℕ → List ℕ → List ℕ → Type 0
+IsOutput is_answered model events script text = let r = reading model events in
+    (blocks : List (List (List ℕ))) × AreBlocks is_answered (world_of model r) 1 (lines_of script) blocks
     × (text ≡ rows_text (map refused_row r.refused ++ (graph_row model r.bounds (length r.accepted) (length r.refused) ∷ blocks)))
 
 -- a line is skipped, or its query is not refused
-abbrev pub is_clean_line : List ℕ → Bool
-is_clean_line line = is_blank line || is_ok (query_of line)
+abbrev pub is_clean_line : (Query → Bool) → List ℕ → Bool
+is_clean_line is_answered line = is_blank line || is_ok (query_of is_answered line)
 
 -- no record and no query is refused
-unfoldable pub is_clean : Model → List ℕ → List ℕ → Bool
-is_clean model events script = (length (reading model events).refused == 0) && list_all is_clean_line (lines_of script)
+unfoldable pub is_clean : (Query → Bool) → Model → List ℕ → List ℕ → Bool
+is_clean is_answered model events script = (length (reading model events).refused == 0) && list_all (is_clean_line is_answered) (lines_of script)

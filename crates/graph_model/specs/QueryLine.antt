@@ -12,7 +12,7 @@ use Rattle.graph_model.specs.declared.queries.Query.{Query}
 use Rattle.graph_model.specs.QueryForms.{ask_said, each_said, view_said}
 use Rattle.graph_model.specs.QueryOutcome.{all_of, both, made}
 use Rattle.graph_model.specs.QueryPlaces.{as_list}
-use Rattle.graph_model.specs.Script.{QueryRefusal, Json, Shape, Depth}
+use Rattle.graph_model.specs.Script.{QueryRefusal, Json, Shape, Depth, Unbuilt}
 
 -- the keys of an object
 abbrev pub keys_of : Members → List (List ℕ)
@@ -69,3 +69,12 @@ reading_said (Some d) = value_said d
 -- the query that a line says, or the first cause that refuses it
 abbrev pub query_said : List ℕ → Result Query QueryRefusal
 query_said line = if is_utf8 line then reading_said (read line) else Err Json
+
+-- a query that is not answered yet is refused as such, after every other cause
+abbrev pub if_answered : (Query → Bool) → Result Query QueryRefusal → Result Query QueryRefusal
+if_answered is_answered (Ok query) = if is_answered query then Ok query else Err Unbuilt
+if_answered is_answered (Err refusal) = Err refusal
+
+-- the query of a line, or why it is refused, where these queries are answered
+abbrev pub query_of : (Query → Bool) → List ℕ → Result Query QueryRefusal
+query_of is_answered line = if_answered is_answered (query_said line)

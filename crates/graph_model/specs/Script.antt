@@ -1,8 +1,6 @@
--- The lines of a script, and the queries that they are.
-use Rattle.std.specs.Prelude.{ℕ, Bool, ◌==◌, ◌&&◌, ◌||◌, List, [], ◌∷◌, codes, length, drop, nat_eq, None, Result, Ok, Err, if◌then◌else◌}
-use Rattle.std.specs.List.{list_all, starts_with}
-use Rattle.graph_model.specs.declared.queries.Ask.TheVariants.{Degree}
-use Rattle.graph_model.specs.declared.queries.Query.{Query}
+-- The lines of a script, and why queries are refused.
+use Rattle.std.specs.Prelude.{ℕ, Bool, ◌==◌, ◌||◌, List, [], ◌∷◌, codes, if◌then◌else◌}
+use Rattle.std.specs.List.{list_all}
 
 -- a byte more at the front of the first line
 abbrev pub onto_first : ℕ → List (List ℕ) → List (List ℕ)
@@ -21,19 +19,6 @@ is_space byte = (byte == 32) || ((byte == 9) || (byte == 13))
 -- a line that is skipped
 abbrev pub is_blank : List ℕ → Bool
 is_blank line = list_all is_space line
-
--- a text without the spaces at its front
-abbrev pub without_spaces : List ℕ → List ℕ
-without_spaces [] = []
-without_spaces (byte ∷ bytes) = if is_space byte then without_spaces bytes else byte ∷ bytes
-
--- the text of a query for degrees
-abbrev pub degree_query : List ℕ
-degree_query = codes "{\"ask\":[\"degree\"]}"
-
--- a line asks for degrees, with any spaces before and behind
-abbrev pub asks_degrees : List ℕ → Bool
-asks_degrees line = let text = without_spaces line in starts_with nat_eq text degree_query && is_blank (drop (length degree_query) text)
 
 -- why a query is refused, in the order in which it is judged
 pub data QueryRefusal : Type 0 where
@@ -58,7 +43,3 @@ query_refusal_name Number = codes "number"
 query_refusal_name Depth = codes "depth"
 query_refusal_name Windows = codes "windows"
 query_refusal_name Unbuilt = codes "unbuilt"
-
--- the query that a line is, or why it is refused
-abbrev pub query_of : List ℕ → Result Query QueryRefusal
-query_of line = if asks_degrees line then Ok (record { ask = Degree; views = []; each = None }) else Err Unbuilt

@@ -156,6 +156,20 @@ impl Store {
         self.layers.len()
     }
 
+    /// How many keys of nodes there are.
+    pub fn node_keys(&self) -> u32
+        ensures { result ≡ length self.now.node_keys }
+    {
+        self.node_keys.len()
+    }
+
+    /// How many keys of edges there are.
+    pub fn edge_keys(&self) -> u32
+        ensures { result ≡ length self.now.edge_keys }
+    {
+        self.edge_keys.len()
+    }
+
     /// How many names of types there are, 4,096 at the most. Their numbers are below that.
     pub fn types(&self) -> u32
         ensures len { result ≡ length self.now.kinds }

@@ -11,3 +11,6 @@ pub use laws::{
     links_count_neighbours, neighbours_are_at_the_ends_of_links, pairs_are_links,
     shown_pairs_are_links,
 };
+
+#[cfg(test)]
+mod tests;

@@ -1,0 +1,9 @@
+pub mod Told
+pub mod Shown
+pub mod Costs
+pub mod Whole
+pub mod Kept
+pub mod Rising
+pub mod Found
+pub mod Pairs
+pub mod NodePairs

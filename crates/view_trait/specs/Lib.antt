@@ -1,0 +1,5 @@
+pub mod Meaning
+pub mod Numbered
+pub mod Present
+pub mod Filtered
+pub mod Ready

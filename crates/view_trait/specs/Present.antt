@@ -1,0 +1,41 @@
+-- Pairs and neighbours, by their numbers.
+use Rattle.std.specs.Prelude.{ℕ, List, [], ◌++◌, Bool, not, ◌&&◌, ◌≡◌, ◌<◌, ◌==◌, length, map, Option}
+use Rattle.std.specs.Option.{option_map_or}
+use Rattle.std.specs.List.{list_any, filter, IsDistinct, AllByRecursion}
+use Rattle.graph_model.specs.declared.queries.Direction.{Direction}
+use Rattle.graph_model.specs.declared.queries.Direction.TheVariants.{Outward}
+use Rattle.graph_model.specs.Names.{same_name}
+use Rattle.graph_model.specs.World.{World}
+use Rattle.graph_model.specs.Neighbours.{leads}
+use Rattle.graph_store.specs.Ends.{ends_at}
+use Rattle.graph_store.specs.Contents.{Contents, name_at}
+
+-- whether a present edge leads from the source of a pair to its destination
+abbrev pub pair_leads : Contents → World → ℕ → Bool
+pair_leads c w p = leads w Outward (name_at c.nodes (ends_at c.pairs p).src) (name_at c.nodes (ends_at c.pairs p).dst)
+
+-- whether one of some pairs is present
+abbrev pub any_pair_leads : Contents → World → List ℕ → Bool
+any_pair_leads c w pairs = list_any (pair_leads c w) pairs
+
+-- distinct numbers of nodes, whose names are the neighbours of a node
+pub record AreNeighbours (c : Contents) (w : World) (d : Direction) (n : ℕ) (numbers : List ℕ) : Type 0 where
+  pub apart : IsDistinct (λ (i j : ℕ). i == j) numbers
+  pub within : AllByRecursion (λ i. i < length c.nodes) numbers
+  pub exactly : (name : List ℕ) → list_any (same_name name) (map (name_at c.nodes) numbers) ≡ leads w d (name_at c.nodes n) name
+
+-- the destinations of the present pairs among some
+abbrev pub ends_left : Contents → World → List ℕ → List ℕ
+ends_left c w pairs = map (λ p. (ends_at c.pairs p).dst) (filter (pair_leads c w) pairs)
+
+-- whether a pair is present, and, where both directions are asked, no present edge leads from a node to its source
+abbrev pub is_new_start : Contents → World → ℕ → Bool → ℕ → Bool
+is_new_start c w n both p = pair_leads c w p && not (both && leads w Outward (name_at c.nodes n) (name_at c.nodes (ends_at c.pairs p).src))
+
+-- the sources of the new pairs among some
+abbrev pub starts_left : Contents → World → ℕ → Bool → List ℕ → List ℕ
+starts_left c w n both pairs = map (λ p. (ends_at c.pairs p).src) (filter (is_new_start c w n both) pairs)
+
+-- what a walk along two chains of pairs has left
+abbrev pub numbers_left : Contents → World → ℕ → Bool → Option (List ℕ) → Option (List ℕ) → List ℕ
+numbers_left c w n both out into = option_map_or (ends_left c w) out [] ++ option_map_or (starts_left c w n both) into []

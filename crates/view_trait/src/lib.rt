@@ -1,0 +1,12 @@
+//! Views of a graph, and what they show as present.
+#![tactic(auto)]
+
+mod numbers;
+mod presence;
+mod ready_ops;
+mod view;
+
+pub use numbers::{NodeList, has_layer, has_node, has_nodes, nothing};
+pub use presence::{edge_present, node_present, pair_present};
+pub use ready_ops::{ReadyOp, ReadyOps};
+pub use view::View;

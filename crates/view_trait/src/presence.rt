@@ -1,0 +1,82 @@
+//! What a view shows as present.
+ghost use Rattle.std.specs.Prelude.{◌≡◌, ◌<◌, ◌||◌, length, None, is_some};
+ghost use Rattle.std.specs.List.{AllByRecursion, last_or};
+ghost use Rattle.graph_model.specs.declared.events.Model.TheVariants.{Event as Instants};
+ghost use Rattle.graph_model.specs.Presence.{edge_present as is_edge_present, node_present as is_node_present};
+ghost use Rattle.graph_model.specs.World.{events_of};
+ghost use Rattle.graph_store.specs.Paired.{pairs_from, pairs_to};
+ghost use Rattle.graph_store.specs.Contents.{name_at};
+ghost use Rattle.view_trait.specs.Meaning.{IsWithin, node_at, edge_named};
+ghost use Rattle.view_trait.specs.Present.{pair_leads, any_pair_leads};
+
+use crate::view::View;
+use graph_store::{EdgeId, NodeId, PairId, PairWalk};
+use std::sync::ledger::Ledger;
+use time_column::Steps;
+
+/// Whether an edge is present.
+pub fn edge_present<V: View, L: Ledger>(view: &V, e: EdgeId, steps: &mut Steps<L>) -> bool
+    requires { e.0 < length (V.contents view.now).edges }
+    ensures present { result ≡ is_edge_present (V.world view.now) (edge_named (V.contents view.now) e.0) }
+    ensures cost { (V.world view.now).model ≡ Instants → IsWithin steps.old steps.new (V.searches view.now).edges (length (V.contents view.now).accepted) }
+{
+    let store = view.store();
+    let span = view.edge_span(e, steps);
+    store.edge_history(e).present(span, view.bounds(), store.model(), steps)
+}
+
+/// Whether a pair is present: a present edge leads from its source to its destination.
+pub fn pair_present<V: View, L: Ledger>(view: &V, p: PairId, steps: &mut Steps<L>) -> bool
+    requires { p.0 < length (V.contents view.now).pairs }
+    ensures { result ≡ pair_leads (V.contents view.now) (V.world view.now) p.0 }
+{
+    let mut edges = view.store().edges_of(p);
+    while let Some(e) = edges.next() {
+        if edge_present(view, e, steps) {
+            return true;
+        }
+    }
+    false
+}
+
+/// Whether one of the pairs yet to come is present.
+fn any_pair_present<V: View, L: Ledger>(view: &V, pairs: PairWalk<'_>, steps: &mut Steps<L>) -> bool
+    requires { AllByRecursion (λ p. p < length (V.contents view.now).pairs) pairs }
+    ensures { result ≡ any_pair_leads (V.contents view.now) (V.world view.now) pairs.entry }
+{
+    let mut pairs = pairs;
+    while let Some(p) = pairs.next() {
+        if pair_present(view, p, steps) {
+            return true;
+        }
+    }
+    false
+}
+
+/// Whether a present edge begins or ends at a node.
+fn has_present_pair<V: View, L: Ledger>(view: &V, n: NodeId, steps: &mut Steps<L>) -> bool
+    requires { n.0 < length (V.contents view.now).nodes }
+    ensures { result ≡ (any_pair_leads (V.contents view.now) (V.world view.now) (pairs_from (V.contents view.now).pairs n.0) || any_pair_leads (V.contents view.now) (V.world view.now) (pairs_to (V.contents view.now).pairs n.0)) }
+{
+    let store = view.store();
+    any_pair_present(view, store.out_pairs(n), steps)
+        || any_pair_present(view, store.in_pairs(n), steps)
+}
+
+/// Whether a node has an event of its own.
+fn has_event<V: View, L: Ledger>(view: &V, n: NodeId, steps: &mut Steps<L>) -> bool
+    requires { n.0 < length (V.contents view.now).nodes }
+    ensures { result ≡ is_some (last_or None (events_of (V.world view.now) (node_at (V.contents view.now) n.0))) }
+{
+    let store = view.store();
+    let span = view.node_span(n, steps);
+    store.node_history(n).last_kind(span).is_some()
+}
+
+/// Whether a node is present: it has an event of its own, or is an end of a present edge.
+pub fn node_present<V: View, L: Ledger>(view: &V, n: NodeId, steps: &mut Steps<L>) -> bool
+    requires { n.0 < length (V.contents view.now).nodes }
+    ensures { result ≡ is_node_present (V.world view.now) (name_at (V.contents view.now).nodes n.0) }
+{
+    has_event(view, n, steps) || has_present_pair(view, n, steps)
+}
