@@ -108,11 +108,11 @@ both_bits a b l h =
 pub HasLayers-layer_world : (c : Contents) (w : World) (a b : ℕ) → IsIndexed c → HasLayers c w a → HasLayers c (layer_world c b w) (bit_and a b)
 HasLayers-layer_world c w a b h k = record {
   none = λ e m n.
-    let p = in_layers (layers_numbered c b) in
-    elim (both_bits a b (parts_at c.edges e).layer n) [
-      | inl z ↦ (HasLayers-keep p c w a k).none e m z
-      | inr z ↦ events_of-keep p w (edge_at c e) ∙ ap (λ t. cond t (events_of w (edge_at c e)) []) (layer_keeps c b e h m ∙ z)
-    ]
+      let p = in_layers (layers_numbered c b) in
+      elim (both_bits a b (parts_at c.edges e).layer n) [
+        | inl z ↦ (HasLayers-keep p c w a k).none e m z
+        | inr z ↦ events_of-keep p w (edge_at c e) ∙ ap (λ t. cond t (events_of w (edge_at c e)) []) (layer_keeps c b e h m ∙ z)
+      ];
 }
 
 -- ---- leaving out layers is keeping the others

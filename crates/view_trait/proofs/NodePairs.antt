@@ -134,6 +134,7 @@ module _ (c : Contents) (w : World) (n : ℕ) (h : IsShown c w) (known : n < len
           let r = places_found begins (out_test b) c.pairs no_ends k in
           let s = and_parts (pair_leads c w r.0) (same_name b (name_at c.nodes (dst r.0))) r.3 in
           subst (λ z. leads w Outward z b ≡ true) (ap (name_at c.nodes) (eqb-true (src r.0) n r.2)) (subst (λ z. leads w Outward (name_at c.nodes (src r.0)) z ≡ true) (sym (same_name-exact b (name_at c.nodes (dst r.0)) s.1)) s.0)
+
       back : leads w Outward name b ≡ true → list_any (out_test b) (pairs_from c.pairs n) ≡ true
       back k =
           let r = linked w name b k in
@@ -184,8 +185,9 @@ module _ (c : Contents) (w : World) (n : ℕ) (h : IsShown c w) (known : n < len
           let t = and_parts (pair_leads c w r.0) (not (both && leads w Outward name (name_at c.nodes (src r.0)))) s.0 in
           let is : name_at c.nodes (src r.0) ≡ b = sym (same_name-exact b (name_at c.nodes (src r.0)) s.1) in
           and_from (leads w Outward b name) (not (both && leads w Outward name b))
-            (subst (λ z. leads w Outward b z ≡ true) (ap (name_at c.nodes) (eqb-true (dst r.0) n r.2)) (subst (λ z. leads w Outward z (name_at c.nodes (dst r.0)) ≡ true) is t.0))
-            (subst (λ z. not (both && leads w Outward name z) ≡ true) is t.1)
+          (subst (λ z. leads w Outward b z ≡ true) (ap (name_at c.nodes) (eqb-true (dst r.0) n r.2)) (subst (λ z. leads w Outward z (name_at c.nodes (dst r.0)) ≡ true) is t.0))
+          (subst (λ z. not (both && leads w Outward name z) ≡ true) is t.1)
+
       back : wanted both b ≡ true → list_any (in_test both b) (pairs_to c.pairs n) ≡ true
       back k =
           let s = and_parts (leads w Outward b name) (not (both && leads w Outward name b)) k in
@@ -195,9 +197,9 @@ module _ (c : Contents) (w : World) (n : ℕ) (h : IsShown c w) (known : n < len
           let t : eqb (dst p.0) n ≡ true = grind (arith, nat_tests, same) in
           let is : b ≡ name_at c.nodes (src p.0) = r.2 ∙ sym p.2 in
           places_any ends (in_test both b) p.0 c.pairs no_ends p.1 t
-            (and_from (is_new_start c w n both p.0) (same_name b (name_at c.nodes (src p.0)))
-              (and_from (pair_leads c w p.0) (not (both && leads w Outward name (name_at c.nodes (src p.0)))) p.4 (subst (λ z. not (both && leads w Outward name z) ≡ true) is s.1))
-              (subst (λ z. same_name b z ≡ true) is (same_name-refl b)))
+          (and_from (is_new_start c w n both p.0) (same_name b (name_at c.nodes (src p.0)))
+          (and_from (pair_leads c w p.0) (not (both && leads w Outward name (name_at c.nodes (src p.0)))) p.4 (subst (λ z. not (both && leads w Outward name z) ≡ true) is s.1))
+          (subst (λ z. same_name b z ≡ true) is (same_name-refl b)))
 
   -- none of the new ones is led to
   ins_new : AllByRecursion (λ i. leads w Outward name (name_at c.nodes i) ≡ false) (starts_left c w n true (pairs_to c.pairs n))
@@ -228,11 +230,12 @@ module _ (c : Contents) (w : World) (n : ℕ) (h : IsShown c w) (known : n < len
     apart = distinct_append outs ins outs_apart (ins_apart true) (each_weaker (λ i. leads w Outward name (name_at c.nodes i) ≡ true) (λ i. AllByRecursion (λ j. eqb i j ≡ false) ins) (λ i e. each_weaker (λ j. leads w Outward name (name_at c.nodes j) ≡ false) (λ j. eqb i j ≡ false) (λ j f. different i j (λ same. true≢false (sym e ∙ (ap (λ k. leads w Outward name (name_at c.nodes k)) same ∙ f)))) ins ins_new) outs outs_led);
     within = each_append (λ i. i < length c.nodes) outs ins outs_within (ins_within true);
     exactly = λ b. ap (list_any (same_name b)) (map_append (name_at c.nodes) outs ins) ∙ (list_any-append (same_name b) (map (name_at c.nodes) outs) (map (name_at c.nodes) ins)
-      ∙ (ap (λ t. t || list_any (same_name b) (map (name_at c.nodes) ins)) (outs_exactly b) ∙ (ap (λ t. leads w Outward name b || t) (ins_exactly true b) ∙ either (leads w Outward name b) (leads w Outward b name))));
+        ∙ (ap (λ t. t || list_any (same_name b) (map (name_at c.nodes) ins)) (outs_exactly b) ∙ (ap (λ t. leads w Outward name b || t) (ins_exactly true b) ∙ either (leads w Outward name b) (leads w Outward b name))));
   }
     where
       outs : List ℕ
       outs = ends_left c w (pairs_from c.pairs n)
+
       ins : List ℕ
       ins = starts_left c w n true (pairs_to c.pairs n)
 

@@ -71,6 +71,7 @@ places_found_from {X} test q i (x ∷ xs) d h = first (places_found_from test q 
   where
     moved : Found test q (suc i) xs d → Found test q i (x ∷ xs) d
     moved r = let lt = r.1 in let n : suc i + r.0 ≡ i + suc r.0 = omega arith in (suc r.0, omega arith, r.2, ap q (sym n) ∙ r.3)
+
     first : (list_any q (places_from (suc i) test xs) ≡ true → Found test q (suc i) xs d) → (t : Bool) → test x ≡ t → Found test q i (x ∷ xs) d
     first later true e = elim (or_cases (q i) (list_any q (places_from (suc i) test xs)) (sym (ap (list_any q) (cond-true (test x) (i ∷ places_from (suc i) test xs) (places_from (suc i) test xs) e)) ∙ h)) [
       | inl a ↦ let n : i + 0 ≡ i = omega arith in (0, omega arith, e, ap q n ∙ a)
@@ -236,11 +237,13 @@ node_is c w n some h lt yes_some no_some = both_true (some || any_pair c w n) (n
       | inl a ↦ (node_words w (name_at c.nodes n) h.lawful).1 (inl (yes_some a))
       | inr b ↦ pairs_there c w n h b
     ]
+
     own : node_present w (name_at c.nodes n) ≡ true → some ≡ false → any_pair c w n ≡ true
     own k e = elim ((node_words w (name_at c.nodes n) h.lawful).0 k) [
       | inl a ↦ absurd (a (no_some e))
       | inr r ↦ by_edge c w n r.0 h lt r.1 (present_from_contact w r.0 r.2.0 h.lawful r.2.1)
     ]
+
     back : node_present w (name_at c.nodes n) ≡ true → (some || any_pair c w n) ≡ true
     back k = elim (cases_Bool some) [
       | inl e ↦ or_left some (any_pair c w n) e

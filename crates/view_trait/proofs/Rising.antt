@@ -32,9 +32,9 @@ less_from : (x y : ℕ) → nat_cmp x y ≡ Less → x < y
 less_from x y h = elim (three_ways x y) [
   | inl a ↦ a
   | inr b ↦ elim b [
-      | inl e ↦ absurd (let no = sym (equal_is x y e) ∙ h in cc)
-      | inr g ↦ absurd (let no = sym (greater_is x y g) ∙ h in cc)
-    ]
+    | inl e ↦ absurd (let no = sym (equal_is x y e) ∙ h in cc)
+    | inr g ↦ absurd (let no = sym (greater_is x y g) ∙ h in cc)
+  ]
 ]
 
 -- a number is less than those after it

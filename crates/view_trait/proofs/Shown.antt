@@ -45,7 +45,7 @@ IsShown-window c w a b h = record {
 
 pub HasLayers-window : (c : Contents) (w : World) (a b : ℤ) (kept : ℕ) → IsShown c w → HasLayers c w kept → HasLayers c (window w a b) kept
 HasLayers-window c w a b kept shown h = record {
-  none = λ e k n. events_of-window w a b (edge_at c e) shown.lawful ∙ (ap (clip_list w.model (cut w.bounds a b)) (h.none e k n) ∙ clip_nothing w.model (cut w.bounds a b))
+  none = λ e k n. events_of-window w a b (edge_at c e) shown.lawful ∙ (ap (clip_list w.model (cut w.bounds a b)) (h.none e k n) ∙ clip_nothing w.model (cut w.bounds a b));
 }
 
 -- the part of a history that a window cuts out of another shows the window
@@ -59,10 +59,10 @@ Shows-window c w a b x us s r shown tells h span taken clipped =
       span = λ vs t. same_spans x names us vs (tells.told ∙ sym t.told) tells.fits t.fits r span;
       taken = λ vs t. same_taken x names us vs (tells.told ∙ sym t.told) tells.fits t.fits w.model i r span taken;
       spells =
-        ap (λ es. spell es r.from r.to r.carried i.lo) (sym tells.told)
-        ∙ (clipped x names tells.fits
-        ∙ (ap (λ es. clip_list w.model i (spell es s.from s.to s.carried w.bounds.lo)) tells.told
-        ∙ (ap (clip_list w.model i) h.spells ∙ sym (events_of-window w a b x shown.lawful))));
+          ap (λ es. spell es r.from r.to r.carried i.lo) (sym tells.told)
+          ∙ (clipped x names tells.fits
+          ∙ (ap (λ es. clip_list w.model i (spell es s.from s.to s.carried w.bounds.lo)) tells.told
+          ∙ (ap (clip_list w.model i) h.spells ∙ sym (events_of-window w a b x shown.lawful))));
     }
 
 -- the same, for the model and the bounds that a call is given
@@ -102,7 +102,7 @@ IsShown-keep p c w h = record {
 
 pub HasLayers-keep : (p : Entity → Bool) (c : Contents) (w : World) (kept : ℕ) → HasLayers c w kept → HasLayers c (keep p w) kept
 HasLayers-keep p c w kept h = record {
-  none = λ e k n. events_of-keep p w (edge_at c e) ∙ cond_nothing (p (edge_at c e)) (events_of w (edge_at c e)) (h.none e k n)
+  none = λ e k n. events_of-keep p w (edge_at c e) ∙ cond_nothing (p (edge_at c e)) (events_of w (edge_at c e)) (h.none e k n);
 }
 
 -- an entity that is kept shows what it did

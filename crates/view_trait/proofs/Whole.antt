@@ -68,6 +68,7 @@ each_known test (x ∷ xs) h = (
     first : (b : Bool) → test (entity_of x) ≡ b → test (entity_of x) ≡ true
     first true e = e
     first false e = absurd (let none = h (entity_of x) e in let own = ap (λ b. cond b (x ∷ about (entity_of x) xs) (about (entity_of x) xs)) (same_entity-refl (entity_of x)) in let no : x ∷ about (entity_of x) xs ≡ [] = sym own ∙ none in cc)
+
     later : (e : Entity) (b : Bool) → is_about e x ≡ b → about e (x ∷ xs) ≡ [] → about e xs ≡ []
     later e true t none = absurd (let no : x ∷ about e xs ≡ [] = sym (ap (λ b. cond b (x ∷ about e xs) (about e xs)) t) ∙ none in cc)
     later e false t none = sym (ap (λ b. cond b (x ∷ about e xs) (about e xs)) t) ∙ none
@@ -89,10 +90,10 @@ IsShown-base c h k few = record {
 pub HasLayers-all : (c : Contents) (w : World) → IsShown c w → HasLayers c w (2 ^ 64 - 1)
 HasLayers-all c w h = record {
   none = λ e k n.
-    let p = (h.indexed.within e k).2 in
-    let f = h.few_layers in
-    let one : bit_at (2 ^ 64 - 1) (parts_at c.edges e).layer ≡ 1 = bit_at_ones 64 (parts_at c.edges e).layer (omega arith) in
-    absurd (omega (arith, sym one ∙ n))
+      let p = (h.indexed.within e k).2 in
+      let f = h.few_layers in
+      let one : bit_at (2 ^ 64 - 1) (parts_at c.edges e).layer ≡ 1 = bit_at_ones 64 (parts_at c.edges e).layer (omega arith) in
+      absurd (omega (arith, sym one ∙ n));
 }
 
 -- ---- whole histories

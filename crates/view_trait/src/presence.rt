@@ -22,7 +22,9 @@ pub fn edge_present<V: View, L: Ledger>(view: &V, e: EdgeId, steps: &mut Steps<L
 {
     let store = view.store();
     let span = view.edge_span(e, steps);
-    store.edge_history(e).present(span, view.bounds(), store.model(), steps)
+    store
+        .edge_history(e)
+        .present(span, view.bounds(), store.model(), steps)
 }
 
 /// Whether a pair is present: a present edge leads from its source to its destination.

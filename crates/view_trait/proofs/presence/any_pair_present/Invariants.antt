@@ -9,7 +9,7 @@ invariant-loop-p g l =
     let world = g.V.View.world l.fn.view in
     record {
       within : AllByRecursion (λ p. p < length contents.pairs) l.pairs;
-      left : any_pair_leads contents world l.initial.pairs ≡ any_pair_leads contents world l.pairs
+      left : any_pair_leads contents world l.initial.pairs ≡ any_pair_leads contents world l.pairs;
     }
 
 abbrev pub decreases-loop-p : goal.decreases-loop-p

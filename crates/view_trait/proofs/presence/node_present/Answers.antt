@@ -21,7 +21,7 @@ present g c =
 
 pub returns-then-has_event : goal.returns-then-has_event
 returns-then-has_event g c =
-    ap (λ b. b || any_pair (g.V.View.contents c.args.view.now) (g.V.View.world c.args.view.now) c.args.n.0) (sym c.if-has_event.true) ∙ present g (goal.at.returns-then-has_event g c).After-has_event
+    c.if-has_event.true ∙ (ap (λ b. b || any_pair (g.V.View.contents c.args.view.now) (g.V.View.world c.args.view.now) c.args.n.0) (sym c.if-has_event.true) ∙ present g (goal.at.returns-then-has_event g c).After-has_event)
 
 pub returns-else-has_event : goal.returns-else-has_event
 returns-else-has_event g c =

@@ -12,7 +12,7 @@ invariant-loop-e g l =
     let world = g.V.View.world l.fn.view in
     record {
       within : AllByRecursion (λ e. e < length contents.edges) l.edges;
-      left : list_any (λ e. edge_present world (edge_named contents e)) (edges_between contents.edges (ends_at contents.pairs l.fn.p.0)) ≡ list_any (λ e. edge_present world (edge_named contents e)) l.edges
+      left : list_any (λ e. edge_present world (edge_named contents e)) (edges_between contents.edges (ends_at contents.pairs l.fn.p.0)) ≡ list_any (λ e. edge_present world (edge_named contents e)) l.edges;
     }
 
 abbrev pub decreases-loop-e : goal.decreases-loop-e
