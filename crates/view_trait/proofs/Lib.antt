@@ -7,3 +7,6 @@ pub mod Rising
 pub mod Found
 pub mod Pairs
 pub mod NodePairs
+pub mod Entities
+pub mod Extents
+pub mod SpanTimes

@@ -23,8 +23,8 @@ use Rattle.graph_store.specs.Contents.{Contents, name_at}
 use Rattle.graph_store.specs.Indexed.{IsIndexed}
 use Rattle.graph_store.proofs.Listed.{one_place}
 use Rattle.view_trait.specs.Meaning.{IsShown}
-use Rattle.view_trait.specs.Present.{pair_leads, AreNeighbours, ends_left, is_new_start, starts_left, numbers_left}
-use Rattle.view_trait.proofs.Pairs.{each_place_from, each_place, at_zero, places_found, places_any, no_ends, same_number, ends_same, pair_of_edge}
+use Rattle.view_trait.specs.Present.{pair_leads, AreNeighbours, ends_left, is_new_start, starts_left, numbers_left, ArePairs, IsWalk}
+use Rattle.view_trait.proofs.Pairs.{each_place_from, each_place, at_zero, places_found, places_any, no_ends, same_number, ends_same, pair_of_edge, pairs_from_within, pairs_to_within}
 
 -- ---- lists without repeats
 
@@ -71,7 +71,7 @@ unfolding IsDistinct
 distinct_append [] ys h k apart = k
 distinct_append (x ∷ xs) ys h k apart = (each_append (λ y. eqb x y ≡ false) xs ys h.0 apart.0, distinct_append xs ys h.1 k apart.1)
 
-any_map : {X Y : Type 0} (p : Y → Bool) (f : X → Y) (xs : List X) → list_any p (map f xs) ≡ list_any (λ x. p (f x)) xs
+pub any_map : {X Y : Type 0} (p : Y → Bool) (f : X → Y) (xs : List X) → list_any p (map f xs) ≡ list_any (λ x. p (f x)) xs
 any_map p f [] = refl
 any_map p f (x ∷ xs) = ap (λ t. p (f x) || t) (any_map p f xs)
 
@@ -252,3 +252,32 @@ starts_kept c w n both p ps e = ap (map (λ q. (ends_at c.pairs q).src)) (cond-t
 
 pub starts_skipped : (c : Contents) (w : World) (n : ℕ) (both : Bool) (p : ℕ) (ps : List ℕ) → is_new_start c w n both p ≡ false → starts_left c w n both (p ∷ ps) ≡ starts_left c w n both ps
 starts_skipped c w n both p ps e = ap (map (λ q. (ends_at c.pairs q).src)) (cond-false (is_new_start c w n both p) (p ∷ filter (is_new_start c w n both) ps) (filter (is_new_start c w n both) ps) e)
+
+-- ---- what a walk has left at its beginning
+
+pub walk_outward : (c : Contents) (w : World) (n : ℕ) (d : Direction) (both : Bool) (out into : Option (List ℕ)) → IsShown c w → n < length c.nodes → d ≡ Outward → both ≡ false → out ≡ Some (pairs_from c.pairs n) → into ≡ None → AreNeighbours c w d n (numbers_left c w n both out into)
+walk_outward c w n d both out into h known of not_both from none =
+    subst (λ e. AreNeighbours c w e n (numbers_left c w n both out into)) (sym of) (subst (AreNeighbours c w Outward n) (λ i. numbers_left c w n (sym not_both i) (sym from i) (sym none i)) (outward c w n h known))
+
+pub walk_inward : (c : Contents) (w : World) (n : ℕ) (d : Direction) (both : Bool) (out into : Option (List ℕ)) → IsShown c w → n < length c.nodes → d ≡ Inward → both ≡ false → out ≡ None → into ≡ Some (pairs_to c.pairs n) → AreNeighbours c w d n (numbers_left c w n both out into)
+walk_inward c w n d both out into h known of not_both none to =
+    subst (λ e. AreNeighbours c w e n (numbers_left c w n both out into)) (sym of) (subst (AreNeighbours c w Inward n) (λ i. numbers_left c w n (sym not_both i) (sym none i) (sym to i)) (inward c w n h known))
+
+pub walk_both_ways : (c : Contents) (w : World) (n : ℕ) (d : Direction) (both : Bool) (out into : Option (List ℕ)) → IsShown c w → n < length c.nodes → d ≡ Both → both ≡ true → out ≡ Some (pairs_from c.pairs n) → into ≡ Some (pairs_to c.pairs n) → AreNeighbours c w d n (numbers_left c w n both out into)
+walk_both_ways c w n d both out into h known of is_both from to =
+    subst (λ e. AreNeighbours c w e n (numbers_left c w n both out into)) (sym of) (subst (AreNeighbours c w Both n) (λ i. numbers_left c w n (sym is_both i) (sym from i) (sym to i)) (both_ways c w n h known))
+
+asked : (c : Contents) (pairs : Option (List ℕ)) (ps : List ℕ) → pairs ≡ Some ps → AllByRecursion (λ p. p < length c.pairs) ps → ArePairs c pairs
+asked c pairs ps e h = λ x m. let same : ps ≡ x = cc in subst (AllByRecursion (λ p. p < length c.pairs)) same h
+
+unasked : (c : Contents) (pairs : Option (List ℕ)) → pairs ≡ None → ArePairs c pairs
+unasked c pairs e = λ x m. absurd (let no : None ≡ Some x = sym e ∙ m in cc)
+
+pub IsWalk-outward : (c : Contents) (n : ℕ) (out into : Option (List ℕ)) → n < length c.nodes → out ≡ Some (pairs_from c.pairs n) → into ≡ None → IsWalk c n out into
+IsWalk-outward c n out into known from none = record { node = known; out = asked c out (pairs_from c.pairs n) from (pairs_from_within c n); into = unasked c into none }
+
+pub IsWalk-inward : (c : Contents) (n : ℕ) (out into : Option (List ℕ)) → n < length c.nodes → out ≡ None → into ≡ Some (pairs_to c.pairs n) → IsWalk c n out into
+IsWalk-inward c n out into known none to = record { node = known; out = unasked c out none; into = asked c into (pairs_to c.pairs n) to (pairs_to_within c n) }
+
+pub IsWalk-both_ways : (c : Contents) (n : ℕ) (out into : Option (List ℕ)) → n < length c.nodes → out ≡ Some (pairs_from c.pairs n) → into ≡ Some (pairs_to c.pairs n) → IsWalk c n out into
+IsWalk-both_ways c n out into known from to = record { node = known; out = asked c out (pairs_from c.pairs n) from (pairs_from_within c n); into = asked c into (pairs_to c.pairs n) to (pairs_to_within c n) }

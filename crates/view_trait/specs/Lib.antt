@@ -3,3 +3,4 @@ pub mod Numbered
 pub mod Present
 pub mod Filtered
 pub mod Ready
+pub mod Extent

@@ -1,12 +1,13 @@
 -- Pairs and neighbours, by their numbers.
-use Rattle.std.specs.Prelude.{ℕ, List, [], ◌++◌, Bool, not, ◌&&◌, ◌≡◌, ◌<◌, ◌==◌, length, map, Option}
-use Rattle.std.specs.Option.{option_map_or}
+use Rattle.std.specs.Prelude.{ℕ, List, [], ◌∷◌, ◌++◌, Bool, not, ◌&&◌, ◌≡◌, ◌<◌, ◌==◌, length, map, Option, MatchOption}
+use Rattle.std.specs.Option.{option_map_or, ForSome}
 use Rattle.std.specs.List.{list_any, filter, IsDistinct, AllByRecursion}
 use Rattle.graph_model.specs.declared.queries.Direction.{Direction}
 use Rattle.graph_model.specs.declared.queries.Direction.TheVariants.{Outward}
 use Rattle.graph_model.specs.Names.{same_name}
 use Rattle.graph_model.specs.World.{World}
 use Rattle.graph_model.specs.Neighbours.{leads}
+use Rattle.graph_store.specs.declared.walks.NodeId.{NodeId}
 use Rattle.graph_store.specs.Ends.{ends_at}
 use Rattle.graph_store.specs.Contents.{Contents, name_at}
 
@@ -36,6 +37,27 @@ is_new_start c w n both p = pair_leads c w p && not (both && leads w Outward (na
 abbrev pub starts_left : Contents → World → ℕ → Bool → List ℕ → List ℕ
 starts_left c w n both pairs = map (λ p. (ends_at c.pairs p).src) (filter (is_new_start c w n both) pairs)
 
+-- what a walk has left of the destinations of some pairs, and of the sources of others, where they are asked
+abbrev pub out_left : Contents → World → Option (List ℕ) → List ℕ
+out_left c w out = option_map_or (ends_left c w) out []
+
+abbrev pub into_left : Contents → World → ℕ → Bool → Option (List ℕ) → List ℕ
+into_left c w n both into = option_map_or (starts_left c w n both) into []
+
 -- what a walk along two chains of pairs has left
 abbrev pub numbers_left : Contents → World → ℕ → Bool → Option (List ℕ) → Option (List ℕ) → List ℕ
-numbers_left c w n both out into = option_map_or (ends_left c w) out [] ++ option_map_or (starts_left c w n both) into []
+numbers_left c w n both out into = out_left c w out ++ into_left c w n both into
+
+-- numbers of pairs of a store
+abbrev pub ArePairs : Contents → Option (List ℕ) → Type 0
+ArePairs c pairs = ForSome pairs (AllByRecursion (λ p. p < length c.pairs))
+
+-- what walks along chains of pairs for the neighbours of a node of a store
+pub record IsWalk (c : Contents) (n : ℕ) (begun ended : Option (List ℕ)) : Type 0 where
+  pub node : n < length c.nodes
+  pub out : ArePairs c begun
+  pub into : ArePairs c ended
+
+-- the first of what was left, or nothing where nothing was
+abbrev pub IsNext : List ℕ → List ℕ → Option NodeId → Type 0
+IsNext before after next = MatchOption next ((before ≡ []) × (after ≡ [])) (λ n. before ≡ n.0 ∷ after)

@@ -1,11 +1,15 @@
 //! Views of a graph, and what they show as present.
 #![tactic(auto)]
 
+mod extent_of_view;
+mod neighbour_walk;
 mod numbers;
 mod presence;
 mod ready_ops;
 mod view;
 
+pub use extent_of_view::{WorldExtent, extent};
+pub use neighbour_walk::{NeighbourWalk, neighbours};
 pub use numbers::{NodeList, has_layer, has_node, has_nodes, nothing};
 pub use presence::{edge_present, node_present, pair_present};
 pub use ready_ops::{ReadyOp, ReadyOps};

@@ -1,0 +1,38 @@
+use Rattle.std.proofs.Common.{◌≡◌, sym, ◌∙◌, ap, rules, arith, length}
+use Rattle.std.specs.Int.{w64}
+use Rattle.std.proofs.lemmas.Int.{to_z-of_z}
+use Rattle.graph_model.specs.Accepting.{Events}
+use Rattle.graph_model.specs.Interval.{Interval}
+use Rattle.time_history.specs.Spans.{spelled}
+use Rattle.graph_store.specs.Contents.{Contents, key_names_for}
+use Rattle.view_trait.specs.Extent.{extent_of}
+use Rattle.view_trait.specs.Meaning.{Tells, edge_at}
+use Rattle.view_trait.proofs.Found.{edge_tells, spelled_is}
+use Rattle.view_trait.proofs.SpanTimes.{few_told}
+use Rattle.view_trait.proofs.extent_of_view.edge_extent.Given.{Over}
+use Rattle.view_trait.proofs.extent_of_view.edge_extent.Goals.{After-span_extent}
+use Rattle.view_trait.proofs.extent_of_view.edge_extent.Goals as goal
+
+tells : (g : Over) (c : After-span_extent g) → Tells (g.V.View.contents c.args.view.now) (edge_at (g.V.View.contents c.args.view.now) c.args.e.0) c.edge_history.result.now.updates
+tells g c = edge_tells c.store-store.result.now (g.V.View.contents c.args.view.now) c.args.e.0 c.edge_history.result.now.updates c.store-store.ensures c.edge_history.ensures.told c.edge_history.ensures.fits
+
+pub returns-clause-extent : goal.returns-clause-extent
+returns-clause-extent g c =
+    let contents = g.V.View.contents c.args.view.now in
+    let world = g.V.View.world c.args.view.now in
+    let us = c.edge_history.result.now.updates in
+    let span = c.edge_span-span.result in
+    let x = edge_at contents c.args.e.0 in
+    let t = tells g (goal.at.returns-clause-extent g c).After-span_extent in
+    let lo = to_z-of_z w64 c.lo.result (search rules) ∙ (c.lo.ensures.value ∙ ap (λ (i : Interval). i.lo) c.bounds.ensures) in
+    c.span_extent.ensures.extent x (key_names_for contents x) t.fits
+    ∙ (ap (λ z. extent_of (spelled x (key_names_for contents x) us span z)) lo ∙ ap extent_of (spelled_is contents world x us span t c.edge_span-span.ensures.shows))
+
+pub returns-clause-few : goal.returns-clause-few
+returns-clause-few g c =
+    let contents = g.V.View.contents c.args.view.now in
+    let a = c.span_extent.ensures.few in
+    let b = few_told contents (edge_at contents c.args.e.0) c.edge_history.result.now.updates (tells g (goal.at.returns-clause-few g c).After-span_extent) in
+    let d = c.events-few.ensures.limits Events in
+    let e = ap (λ (s : Contents). length s.accepted) c.store-store.ensures in
+    omega (arith, a, b, d, e)

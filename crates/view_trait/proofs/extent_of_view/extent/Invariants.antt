@@ -1,0 +1,24 @@
+use Rattle.std.proofs.Common.{◌≡◌, ◌≤◌, ◌+◌, ◌*◌, ◌++◌, take}
+use Rattle.std.specs.List.{flat_map}
+use Rattle.graph_model.specs.World.{events_of}
+use Rattle.graph_store.specs.Contents.{node_entities, edge_entities}
+use Rattle.view_trait.proofs.Extents.{IsExtent}
+use Rattle.view_trait.proofs.extent_of_view.extent.Given as goal
+
+abbrev pub invariant-loop-n : goal.invariant-loop-n
+invariant-loop-n g l =
+    let contents = g.V.View.contents l.fn.view in
+    let world = g.V.View.world l.fn.view in
+    record {
+      few : l.all.events ≤ 4194304 * l.n;
+      extent : IsExtent (flat_map (events_of world) (take l.n (node_entities contents.nodes))) l.all;
+    }
+
+abbrev pub invariant-loop-e : goal.invariant-loop-e
+invariant-loop-e g l =
+    let contents = g.V.View.contents l.fn.view in
+    let world = g.V.View.world l.fn.view in
+    record {
+      few : l.all.events ≤ 4194304 * 1048576 + 4194304 * l.e;
+      extent : IsExtent (flat_map (events_of world) (node_entities contents.nodes ++ take l.e (edge_entities contents.nodes contents.layers contents.edges))) l.all;
+    }

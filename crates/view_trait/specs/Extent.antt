@@ -1,0 +1,30 @@
+-- How many events a list has, and its first and last time.
+use Rattle.std.specs.Prelude.{ℤ, List, [], ◌∷◌, length, Option, Some, None}
+use Rattle.std.specs.Int.{int_max, int_min}
+use Rattle.graph_model.specs.declared.events.Event.{Event}
+use Rattle.graph_model.specs.Windows.{last_time}
+use Rattle.view_trait.specs.declared.extent_of_view.WorldExtent.{WorldExtent}
+
+-- the time of the first event, and of the last
+abbrev pub time_of_first : List Event → Option ℤ
+time_of_first [] = None
+time_of_first (x ∷ xs) = Some x.time
+
+abbrev pub time_of_last : List Event → Option ℤ
+time_of_last [] = None
+time_of_last (x ∷ xs) = Some (last_time x.time xs)
+
+-- how many events a list has, with the first and the last time in it
+abbrev pub extent_of : List Event → WorldExtent
+extent_of xs = record { events = length xs; first = time_of_first xs; last = time_of_last xs }
+
+-- the earlier and the later of two times, where both are there, or else the one that is
+abbrev pub earlier_of : Option ℤ → Option ℤ → Option ℤ
+earlier_of None b = b
+earlier_of (Some a) None = Some a
+earlier_of (Some a) (Some b) = Some (int_min a b)
+
+abbrev pub later_of : Option ℤ → Option ℤ → Option ℤ
+later_of None b = b
+later_of (Some a) None = Some a
+later_of (Some a) (Some b) = Some (int_max a b)

@@ -1,0 +1,166 @@
+//! How many events a view shows, and its first and last time.
+ghost use Rattle.std.specs.Prelude.{◌≡◌, ℕ, ◌≤◌, ◌<◌, ◌+◌, ◌-◌, ◌^◌, List, [], length, if◌then◌else◌};
+ghost use Rattle.graph_model.specs.World.{events_of};
+ghost use Rattle.graph_model.specs.declared.events.Entity.{Entity};
+ghost use Rattle.time_history.specs.Spans.{IsSpan, spelled};
+ghost use Rattle.time_history.specs.Told.{Fits};
+ghost use Rattle.view_trait.specs.Extent.{extent_of, time_of_first, time_of_last, earlier_of, later_of};
+ghost use Rattle.view_trait.specs.Meaning.{node_at, edge_at};
+
+use crate::view::View;
+use graph_store::{EdgeId, NodeId};
+use std::sync::ledger::Ledger;
+use time_column::Steps;
+use time_history::{History, Span};
+
+/// How many events a world has, and the first and last time of one. A world without events has no
+/// first and no last time.
+#[derive(Clone, Copy, Debug, PartialEq, Eq, Drop)]
+pub struct WorldExtent {
+    pub events: u64,
+    pub first: Option<i64>,
+    pub last: Option<i64>,
+}
+
+/// The earlier of two times, where both are there.
+fn earlier(a: Option<i64>, b: Option<i64>) -> Option<i64>
+    ensures { result ≡ earlier_of a b }
+{
+    match (a, b) {
+        (Some(a), Some(b)) => Some(a.min(b)),
+        (None, b) => b,
+        (a, None) => a,
+    }
+}
+
+/// The later of two times, where both are there.
+fn later(a: Option<i64>, b: Option<i64>) -> Option<i64>
+    ensures { result ≡ later_of a b }
+{
+    match (a, b) {
+        (Some(a), Some(b)) => Some(a.max(b)),
+        (None, b) => b,
+        (a, None) => a,
+    }
+}
+
+impl WorldExtent {
+    /// No event.
+    fn new() -> WorldExtent
+        ensures { result ≡ extent_of [] }
+    {
+        WorldExtent {
+            events: 0,
+            first: None,
+            last: None,
+        }
+    }
+
+    /// The events of both.
+    fn with(self, other: WorldExtent) -> WorldExtent
+        requires { self.events + other.events < 2 ^ 64 }
+        ensures events { result.events ≡ self.events + other.events }
+        ensures first { result.first ≡ earlier_of self.first other.first }
+        ensures last { result.last ≡ later_of self.last other.last }
+    {
+        WorldExtent {
+            events: self.events + other.events,
+            first: earlier(self.first, other.first),
+            last: later(self.last, other.last),
+        }
+    }
+}
+
+/// The time of the first event of a span, of which one that is carried is at `lo`.
+fn first_of<L: Ledger>(history: &History, span: Span, lo: i64, steps: &mut Steps<L>) -> Option<i64>
+    requires { IsSpan history.now.updates span }
+    ensures { (x : Entity) (names : ℕ → List ℕ) → Fits x history.now.updates → result ≡ time_of_first (spelled x names history.now.updates span lo) }
+{
+    if span.carried {
+        Some(lo)
+    } else if span.from < span.to {
+        Some(history.time_at(span.from, steps))
+    } else {
+        None
+    }
+}
+
+/// The time of the last event of a span, of which one that is carried is at `lo`.
+fn last_of<L: Ledger>(history: &History, span: Span, lo: i64, steps: &mut Steps<L>) -> Option<i64>
+    requires { IsSpan history.now.updates span }
+    ensures { (x : Entity) (names : ℕ → List ℕ) → Fits x history.now.updates → result ≡ time_of_last (spelled x names history.now.updates span lo) }
+{
+    if span.from < span.to {
+        Some(history.time_at(span.to - 1, steps))
+    } else if span.carried {
+        Some(lo)
+    } else {
+        None
+    }
+}
+
+/// How many events a span has.
+fn count_of(span: Span) -> u64
+    requires { span.from ≤ span.to }
+    ensures { result ≡ span.to - span.from + (if span.carried then 1 else 0) }
+{
+    (span.to - span.from) as u64 + span.carried as u64
+}
+
+/// The extent of the events of a span, of which one that is carried is at `lo`.
+fn span_extent<L: Ledger>(
+    history: &History,
+    span: Span,
+    lo: i64,
+    steps: &mut Steps<L>,
+) -> WorldExtent
+    requires { IsSpan history.now.updates span }
+    ensures extent { (x : Entity) (names : ℕ → List ℕ) → Fits x history.now.updates → result ≡ extent_of (spelled x names history.now.updates span lo) }
+    ensures few { result.events ≤ length history.now.updates }
+{
+    WorldExtent {
+        events: count_of(span),
+        first: first_of(history, span, lo, steps),
+        last: last_of(history, span, lo, steps),
+    }
+}
+
+/// The extent of a node's own events.
+fn node_extent<V: View, L: Ledger>(view: &V, n: NodeId, steps: &mut Steps<L>) -> WorldExtent
+    requires { n.0 < length (V.contents view.now).nodes }
+    ensures extent { result ≡ extent_of (events_of (V.world view.now) (node_at (V.contents view.now) n.0)) }
+    ensures few { result.events ≤ 4194304 }
+{
+    let store = view.store();
+    let _few = store.events();
+    let span = view.node_span(n, steps);
+    span_extent(store.node_history(n), span, view.bounds().lo(), steps)
+}
+
+/// The extent of an edge's events.
+fn edge_extent<V: View, L: Ledger>(view: &V, e: EdgeId, steps: &mut Steps<L>) -> WorldExtent
+    requires { e.0 < length (V.contents view.now).edges }
+    ensures extent { result ≡ extent_of (events_of (V.world view.now) (edge_at (V.contents view.now) e.0)) }
+    ensures few { result.events ≤ 4194304 }
+{
+    let store = view.store();
+    let _few = store.events();
+    let span = view.edge_span(e, steps);
+    span_extent(store.edge_history(e), span, view.bounds().lo(), steps)
+}
+
+/// How many events the world of a view has, and the first and last time of one. It asks for each
+/// span once, and takes no memory.
+pub fn extent<V: View, L: Ledger>(view: &V, steps: &mut Steps<L>) -> WorldExtent
+    ensures { result ≡ extent_of (V.world view.now).events }
+{
+    let store = view.store();
+    let mut all = WorldExtent::new();
+    for n in 0..store.nodes() {
+        all = all.with(node_extent(view, NodeId(n), steps));
+    }
+    for e in 0..store.edges() {
+        all = all.with(edge_extent(view, EdgeId(e), steps));
+    }
+    all
+}
