@@ -1,11 +1,10 @@
 -- The entities that numbers name, each once, and a world as the lists of their events.
-use Rattle.std.proofs.Common.{◌≡◌, ℕ, zero, suc, ◌+◌, ◌<◌, ◌≤◌, Bool, true, false, ◌||◌, List, [], ◌∷◌, ◌++◌, cond, length, map, get_or, refl, sym, ◌∙◌, ap, subst, arith, append-nil}
+use Rattle.std.proofs.Common.{◌≡◌, ℕ, suc, ◌<◌, Bool, true, false, ◌||◌, List, [], ◌∷◌, ◌++◌, cond, length, get_or, refl, sym, ◌∙◌, ap, arith, append-nil}
 use Rattle.std.specs.List.{list_any, filter, flat_map, AllByRecursion}
 use Rattle.std.proofs.lemmas.Bool.{cond-true, cond-false}
 use Rattle.std.proofs.lemmas.Bool.Decides.{nat_tests}
 use Rattle.std.proofs.lemmas.List.{get_or-map, length-map}
 use Rattle.std.proofs.lemmas.List.Elements.{filter-append}
-use Rattle.std.proofs.lemmas.List.Folds.{list_any-append}
 use Rattle.graph_model.specs.declared.events.EdgeName.{EdgeName}
 use Rattle.graph_model.specs.declared.events.Entity.{Entity}
 use Rattle.graph_model.specs.declared.events.Entity.TheVariants.{Node, Edge}
@@ -20,7 +19,7 @@ use Rattle.world_laws.proofs.Listed.{about-arrange, fixed_by_entities}
 use Rattle.world_laws.proofs.Carried.{about_one}
 use Rattle.graph_store.specs.declared.edges.EdgeParts.{EdgeParts}
 use Rattle.graph_store.specs.Parts.{same_parts, parts_at}
-use Rattle.graph_store.specs.Contents.{Contents, name_at, edge_name, node_entities, edge_entities}
+use Rattle.graph_store.specs.Contents.{Contents, edge_name, node_entities, edge_entities}
 use Rattle.graph_store.specs.Indexed.{IsIndexed}
 use Rattle.graph_store.proofs.Listed.{one_place}
 use Rattle.view_trait.specs.Meaning.{IsShown, knows, edge_named}

@@ -1,5 +1,5 @@
 -- Layers and nodes that are chosen by their numbers.
-use Rattle.std.proofs.Common.{◌≡◌, ℕ, zero, suc, ◌+◌, ◌-◌, ◌^◌, ◌≤◌, ◌<◌, Bool, true, false, not, ◌&&◌, ◌||◌, List, [], ◌∷◌, cond, refl, sym, ◌∙◌, ap, subst, arith, length, get_or, inl, inr, eqb}
+use Rattle.std.proofs.Common.{◌≡◌, ℕ, zero, suc, ◌+◌, ◌^◌, ◌≤◌, ◌<◌, Bool, true, false, not, ◌&&◌, ◌||◌, List, [], ◌∷◌, cond, refl, sym, ◌∙◌, ap, subst, arith, length, get_or, inl, inr, eqb}
 use Rattle.std.specs.Prelude.{bit_and, ◌⊎◌, min}
 use Rattle.std.specs.Int.{bit_at, bit_not, w64}
 use Rattle.std.proofs.lemmas.Nat.Bits.{bit_at_and, bit_at_not, bit_at-lt}
@@ -13,7 +13,7 @@ use Rattle.graph_model.specs.declared.events.Entity.TheVariants.{Node, Edge}
 use Rattle.graph_model.specs.Names.{same_name}
 use Rattle.graph_model.specs.declared.events.Event.{Event}
 use Rattle.graph_model.specs.Entity.{entity_of}
-use Rattle.graph_model.specs.Keep.{keep, is_named, in_layers, outside_layers, among_nodes, apart_from_nodes}
+use Rattle.graph_model.specs.Keep.{keep, is_named, in_layers, outside_layers}
 use Rattle.graph_model.specs.World.{World, events_of, remake}
 use Rattle.world_laws.proofs.Filters.{filter_same, each_weaker}
 use Rattle.world_laws.proofs.Order.{same_name-exact, same_name-refl}

@@ -10,3 +10,6 @@ pub mod NodePairs
 pub mod Entities
 pub mod Extents
 pub mod SpanTimes
+pub mod Selected
+pub mod Drawn
+pub mod ReadyWorlds

@@ -1,7 +1,7 @@
 -- Present edges and pairs, by the numbers of a store.
-use Rattle.std.proofs.Common.{◌≡◌, ℕ, zero, suc, ◌+◌, ◌<◌, ◌≤◌, ◌⊎◌, Bool, true, false, ◌&&◌, ◌||◌, List, [], ◌∷◌, cond, length, map, get_or, refl, sym, ◌∙◌, ap, subst, arith, inl, inr, eqb}
-use Rattle.std.specs.Prelude.{position, Option, Some, None}
-use Rattle.std.specs.List.{list_any, AllByRecursion, IsDistinct}
+use Rattle.std.proofs.Common.{◌≡◌, ℕ, zero, suc, ◌+◌, ◌<◌, ◌⊎◌, Bool, true, false, ◌||◌, List, [], ◌∷◌, length, map, get_or, refl, sym, ◌∙◌, ap, subst, arith, inl, inr, eqb}
+use Rattle.std.specs.Prelude.{position, Some, None}
+use Rattle.std.specs.List.{list_any, AllByRecursion}
 use Rattle.std.proofs.lemmas.List.Quantifiers.{position-Some}
 use Rattle.std.proofs.lemmas.Bool.{cases_Bool, true≢false, and_parts, and_from, or_left, or_right, or_cases, eqb-true, cond-true, cond-false}
 use Rattle.std.proofs.lemmas.Bool.Decides.{nat_tests}
@@ -18,7 +18,7 @@ use Rattle.graph_model.specs.Presence.{alive_at, edge_present, node_present}
 use Rattle.graph_model.specs.Neighbours.{leads}
 use Rattle.world_laws.specs.Contacts.{IsEnd}
 use Rattle.world_laws.proofs.Filters.{each_weaker, filter_none}
-use Rattle.world_laws.proofs.Order.{same_entity-exact, same_entity-refl, same_name-exact, same_name-refl}
+use Rattle.world_laws.proofs.Order.{same_entity-exact, same_name-refl}
 use Rattle.world_laws.proofs.Members.{both_true}
 use Rattle.world_laws.proofs.Nodes.{neighbours_has, neighbour_words, node_words}
 use Rattle.world_laws.proofs.Present.{contact_from_present, present_from_contact}
@@ -30,7 +30,7 @@ use Rattle.graph_store.specs.Ends.{same_ends, ends_at}
 use Rattle.graph_store.specs.Parts.{ends_of, parts_at}
 use Rattle.graph_store.specs.Paired.{pairs_from, pairs_to}
 use Rattle.graph_store.specs.Linked.{edges_between}
-use Rattle.graph_store.specs.Contents.{Contents, name_at, edge_name, edge_entities}
+use Rattle.graph_store.specs.Contents.{Contents, name_at, edge_name}
 use Rattle.graph_store.specs.Indexed.{IsIndexed}
 use Rattle.graph_store.proofs.Listed.{one_place, list_any-place}
 use Rattle.graph_store.proofs.Readers.{none_found}

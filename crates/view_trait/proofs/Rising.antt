@@ -1,15 +1,14 @@
 -- Numbers that rise, searched and put in their places.
-use Rattle.std.proofs.Common.{◌≡◌, ℕ, zero, suc, ◌+◌, ◌<◌, ◌≤◌, ◌⊎◌, Bool, true, false, ◌||◌, List, [], ◌∷◌, cond, length, get_or, refl, sym, ◌∙◌, ap, subst, arith, inl, inr, eqb}
+use Rattle.std.proofs.Common.{◌≡◌, ℕ, zero, suc, ◌<◌, ◌≤◌, ◌⊎◌, Bool, true, false, ◌||◌, List, [], ◌∷◌, cond, length, get_or, refl, sym, ◌∙◌, ap, subst, arith, inl, inr, eqb}
 use Rattle.std.specs.Prelude.{Result, Ok, Err, is_ok}
 use Rattle.std.specs.List.Sorted.{IsBinarySearchResult}
 use Rattle.std.proofs.lemmas.List.Sorted.{searched}
 use Rattle.std.proofs.lemmas.Cmp.{nat_cmp_total}
-use Rattle.std.specs.List.{insert, list_any, AllByRecursion}
-use Rattle.std.specs.declared.cmp.Ordering.{Ordering}
+use Rattle.std.specs.List.{insert}
 use Rattle.std.specs.declared.cmp.Ordering.TheVariants.{Less, Equal, Greater}
 use Rattle.std.specs.Ordering.{nat_cmp, is_lt, is_gt}
 use Rattle.std.specs.Cmp.{nat_cmp_is}
-use Rattle.std.proofs.lemmas.Bool.{eqb-true, eqb-false, ne_eqb}
+use Rattle.std.proofs.lemmas.Bool.{ne_eqb}
 use Rattle.std.proofs.lemmas.Bool.Decides.{nat_tests}
 use Rattle.graph_model.specs.Rising.{put_rising, Rises}
 use Rattle.world_laws.proofs.RisingItems.{Rises-put}
@@ -114,3 +113,33 @@ new_search xs n i h k = let r = searched xs n (Err i) k (numbers_rise xs h) in p
 pub rises_after : (xs ys : List ℕ) (n i : ℕ) (ok : Bool) → Rises nat_cmp xs → put_rising nat_cmp n xs ≡ insert xs i n → ys ≡ cond ok (insert xs i n) xs → Rises nat_cmp ys
 rises_after xs ys n i true h e is = subst (Rises nat_cmp) (e ∙ sym is) (Rises-put nat_cmp nat_cmp_total n xs h)
 rises_after xs ys n i false h e is = subst (Rises nat_cmp) (sym is) h
+
+-- a number that is put is listed beside the others
+listed_twice : (a b d : Bool) → a ≡ b → (b || d) ≡ ((b || d) || a)
+listed_twice true true d h = refl
+listed_twice true false d h = cc
+listed_twice false true d h = cc
+listed_twice false false true h = refl
+listed_twice false false false h = refl
+
+listed_later : (a b d : Bool) → (b || (d || a)) ≡ ((b || d) || a)
+listed_later a true d = refl
+listed_later a false d = refl
+
+listed_before : (a b d : Bool) → (a || (b || d)) ≡ ((b || d) || a)
+listed_before true true d = refl
+listed_before true false true = refl
+listed_before true false false = refl
+listed_before false true d = refl
+listed_before false false true = refl
+listed_before false false false = refl
+
+pub listed_put : (p : ℕ) (xs : List ℕ) (n : ℕ) → is_listed (put_rising nat_cmp p xs) n ≡ (is_listed xs n || eqb p n)
+listed_put p [] n = listed_before (eqb p n) false false
+listed_put p (y ∷ ys) n = elim (three_ways p y) [
+  | inl a ↦ ap (λ zs. is_listed zs n) (put_less p y ys a) ∙ listed_before (eqb p n) (eqb y n) (is_listed ys n)
+  | inr b ↦ elim b [
+    | inl e ↦ ap (λ zs. is_listed zs n) (put_equal p y ys e) ∙ listed_twice (eqb p n) (eqb y n) (is_listed ys n) (ap (λ m. eqb m n) e)
+    | inr g ↦ ap (λ zs. is_listed zs n) (put_greater p y ys g) ∙ (ap (λ b. eqb y n || b) (listed_put p ys n) ∙ listed_later (eqb p n) (eqb y n) (is_listed ys n))
+  ]
+]

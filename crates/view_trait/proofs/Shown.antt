@@ -1,12 +1,12 @@
 -- What views show of entities, from what they stand on.
-use Rattle.std.proofs.Common.{◌≡◌, ℕ, ℤ, ◌+◌, ◌<◌, ◌≤◌, Bool, true, false, List, [], ◌∷◌, cond, length, refl, sym, ◌∙◌, ap, subst, arith, inl, inr}
+use Rattle.std.proofs.Common.{◌≡◌, ℕ, ℤ, Bool, true, false, List, [], cond, refl, sym, ◌∙◌, ap, subst, arith, inl, inr}
 use Rattle.std.specs.List.{filter}
 use Rattle.graph_model.specs.declared.events.Entity.{Entity}
 use Rattle.graph_model.specs.declared.events.Event.{Event}
 use Rattle.graph_model.specs.declared.events.Model.{Model}
 use Rattle.graph_model.specs.Interval.{Interval, cut, is_empty}
 use Rattle.graph_model.specs.Entity.{entity_of}
-use Rattle.graph_model.specs.World.{World, IsLawful, named, events_of, remake, types_in}
+use Rattle.graph_model.specs.World.{World, named, events_of, types_in}
 use Rattle.graph_model.specs.Window.{window, window_list, clip_list}
 use Rattle.graph_model.specs.Keep.{keep}
 use Rattle.graph_model.specs.Spell.{spell}
@@ -18,10 +18,7 @@ use Rattle.world_laws.proofs.Named.{each_entity_window, remake_twice, named-wind
 use Rattle.world_laws.proofs.Times.{cut_lo_above, cut_hi_below}
 use Rattle.time_history.specs.declared.updates.Update.{Update}
 use Rattle.time_history.specs.declared.span.Span.{Span}
-use Rattle.time_history.specs.NoEvent.{HasNoEvent}
-use Rattle.time_history.specs.Told.{events_told, Fits}
-use Rattle.time_history.specs.Spans.{IsSpan, IsTaken, IsPart, IsClipped, spelled}
-use Rattle.graph_store.specs.Parts.{parts_at}
+use Rattle.time_history.specs.Spans.{IsSpan, IsTaken, IsPart, IsClipped}
 use Rattle.graph_store.specs.Contents.{Contents, base_of, key_names_for}
 use Rattle.view_trait.specs.Meaning.{IsShown, Tells, Shows, HasLayers, edge_at, knows}
 use Rattle.view_trait.proofs.Told.{same_spans, same_taken}

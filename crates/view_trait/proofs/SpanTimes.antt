@@ -1,5 +1,5 @@
 -- The times of the first and the last event that a span spells, and how many there are.
-use Rattle.std.proofs.Common.{◌≡◌, ℕ, ◌+◌, ◌-◌, ◌<◌, ◌≤◌, ℤ, Bool, true, false, List, [], ◌∷◌, ◌++◌, cond, length, map, take, drop, slice_range, Option, Some, None, refl, sym, ◌∙◌, ap, arith, append_assoc, length-append}
+use Rattle.std.proofs.Common.{◌≡◌, ℕ, ◌+◌, ◌-◌, ◌<◌, ◌≤◌, ℤ, Bool, true, false, List, [], ◌∷◌, ◌++◌, cond, length, map, take, drop, slice_range, Some, refl, sym, ◌∙◌, ap, arith, append_assoc, length-append}
 use Rattle.std.proofs.lemmas.List.{length-map, length-take, length-drop}
 use Rattle.graph_model.specs.declared.events.Entity.{Entity}
 use Rattle.graph_model.specs.declared.events.Event.{Event}
@@ -14,9 +14,8 @@ use Rattle.time_history.specs.Told.{event_told, events_told, Fits}
 use Rattle.time_history.specs.Spans.{IsSpan, spelled}
 use Rattle.time_history.proofs.Segments.{slice_split, slice_map, slice_nothing}
 use Rattle.time_history.proofs.Alive.{slice_one}
-use Rattle.time_history.proofs.Clips.{bare_spelled}
 use Rattle.time_history.proofs.Last.{carried_one}
-use Rattle.graph_store.specs.Contents.{Contents, base_of, key_names_for}
+use Rattle.graph_store.specs.Contents.{Contents, key_names_for}
 use Rattle.view_trait.specs.Meaning.{Tells}
 use Rattle.view_trait.proofs.Found.{events_fit}
 use Rattle.view_trait.specs.Extent.{time_of_first, time_of_last}

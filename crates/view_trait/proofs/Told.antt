@@ -1,5 +1,5 @@
 -- Updates that tell the same events have the same spans.
-use Rattle.std.proofs.Common.{◌≡◌, ℕ, ◌+◌, ◌-◌, ◌<◌, ◌≤◌, ◌⊎◌, ℤ, ◌<ℤ◌, ◌≤ℤ◌, Bool, true, false, not, ◌&&◌, List, length, get_or, map, nat_lt, refl, sym, ◌∙◌, ap, subst, arith, inl, inr}
+use Rattle.std.proofs.Common.{◌≡◌, ℕ, ◌-◌, ◌<◌, ◌≤◌, ◌⊎◌, ◌<ℤ◌, ◌≤ℤ◌, not, ◌&&◌, List, length, get_or, nat_lt, refl, sym, ◌∙◌, ap, subst, arith, inl, inr}
 use Rattle.std.proofs.lemmas.List.{get_or-map, length-map}
 use Rattle.graph_model.specs.declared.events.Entity.{Entity}
 use Rattle.graph_model.specs.declared.events.Event.{Event}
@@ -9,7 +9,6 @@ use Rattle.graph_model.specs.Interval.{Interval}
 use Rattle.graph_model.specs.Entity.{is_deletion}
 use Rattle.time_history.specs.declared.updates.Update.{Update}
 use Rattle.time_history.specs.declared.span.Span.{Span}
-use Rattle.time_history.specs.NoEvent.{HasNoEvent}
 use Rattle.time_history.specs.Kinds.{is_delete}
 use Rattle.time_history.specs.Updates.{update_at, no_update}
 use Rattle.time_history.specs.Told.{event_told, events_told, named, Fits}

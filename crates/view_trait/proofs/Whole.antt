@@ -1,25 +1,20 @@
 -- The base world of a store, shown by whole histories.
-use Rattle.std.proofs.Common.{◌≡◌, ℕ, ◌+◌, ◌-◌, ◌^◌, ◌<◌, ◌≤◌, ℤ, ◌<ℤ◌, ◌≤ℤ◌, Bool, true, false, not, ◌&&◌, ◌||◌, List, [], ◌∷◌, cond, length, take, drop, get_or, slice_range, refl, sym, ◌∙◌, ap, subst, arith, inl, inr}
+use Rattle.std.proofs.Common.{◌≡◌, ℕ, ◌-◌, ◌^◌, ◌≤◌, Bool, true, false, ◌||◌, List, [], ◌∷◌, cond, length, take, slice_range, refl, sym, ◌∙◌, ap, subst, arith}
 use Rattle.std.specs.Prelude.{is_some}
-use Rattle.std.specs.List.{filter, list_any, list_all, AllByRecursion}
+use Rattle.std.specs.List.{AllByRecursion}
 use Rattle.std.specs.Int.{bit_at}
-use Rattle.std.proofs.lemmas.Int.{ints}
 use Rattle.std.proofs.lemmas.Nat.Bits.{bit_at_ones}
-use Rattle.std.proofs.lemmas.List.{get_or-map, length-map}
+use Rattle.std.proofs.lemmas.List.{length-map}
 use Rattle.std.proofs.Math.Seq.{take-length}
 use Rattle.graph_model.specs.declared.events.Entity.{Entity}
 use Rattle.graph_model.specs.declared.events.Entity.TheVariants.{Node, Edge}
 use Rattle.graph_model.specs.declared.events.Event.{Event}
-use Rattle.graph_model.specs.Interval.{Interval, is_inside}
-use Rattle.graph_model.specs.Names.{same_name}
 use Rattle.graph_model.specs.Entity.{entity_of, is_about, about, involves, same_entity}
 use Rattle.graph_model.specs.World.{World, IsLawful, event_cmp, events_of, arrange, named, type_of, types_in}
 use Rattle.world_laws.proofs.Filters.{filter_none, filter_again}
 use Rattle.world_laws.proofs.InOrder.{each_in_order}
 use Rattle.world_laws.proofs.Order.{same_entity-refl}
 use Rattle.world_laws.proofs.Named.{each_fails}
-use Rattle.world_laws.proofs.Lawful.{all_kept, each_passes}
-use Rattle.world_laws.proofs.Times.{inside_lo, inside_hi}
 use Rattle.time_history.specs.declared.updates.Update.{Update}
 use Rattle.time_history.specs.declared.span.Span.{Span}
 use Rattle.time_history.specs.Told.{event_told}

@@ -4,3 +4,4 @@ pub mod Present
 pub mod Filtered
 pub mod Ready
 pub mod Extent
+pub mod Drawn

@@ -1,6 +1,5 @@
 -- Views whose names were found in a store, and what they show.
 use Rattle.std.specs.Prelude.{List, [], ◌∷◌, Bool, true, false, ◌&&◌, int_le}
-use Rattle.std.specs.List.{list_all}
 use Rattle.graph_model.specs.Interval.{earliest, latest}
 use Rattle.graph_model.specs.Searches.{ViewKind, IsWindow, IsNodeFilter, IsOtherFilter, IsNameView}
 use Rattle.graph_model.specs.World.{World}

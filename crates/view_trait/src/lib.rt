@@ -6,6 +6,7 @@ mod neighbour_walk;
 mod numbers;
 mod presence;
 mod ready_ops;
+mod ready_views;
 mod view;
 
 pub use extent_of_view::{WorldExtent, extent};
@@ -13,4 +14,5 @@ pub use neighbour_walk::{NeighbourWalk, neighbours};
 pub use numbers::{NodeList, has_layer, has_node, has_nodes, nothing};
 pub use presence::{edge_present, node_present, pair_present};
 pub use ready_ops::{ReadyOp, ReadyOps};
+pub use ready_views::ready;
 pub use view::View;

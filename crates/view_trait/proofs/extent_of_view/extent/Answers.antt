@@ -1,4 +1,4 @@
-use Rattle.std.proofs.Common.{◌≡◌, ◌<◌, length, sym, ap, ◌∙◌, arith}
+use Rattle.std.proofs.Common.{◌≡◌, ◌<◌, length, ap, ◌∙◌, arith}
 use Rattle.graph_store.specs.Contents.{Contents}
 use Rattle.view_trait.specs.declared.extent_of_view.WorldExtent.{WorldExtent}
 use Rattle.view_trait.proofs.Extents.{IsExtent-none, nodes_more, edges_more, nodes_whole, edges_whole}

@@ -1,4 +1,4 @@
-use Rattle.std.proofs.Common.{◌≡◌, ◌∙◌, ℕ, List, Option, Some, None, true, false, sym, ap}
+use Rattle.std.proofs.Common.{◌≡◌, ◌∙◌, ℕ, List, Some, ap}
 use Rattle.graph_store.specs.Contents.{Contents}
 use Rattle.graph_store.specs.Paired.{pairs_from, pairs_to}
 use Rattle.view_trait.proofs.NodePairs.{walk_outward, walk_inward, walk_both_ways, IsWalk-outward, IsWalk-inward, IsWalk-both_ways}

@@ -1,5 +1,4 @@
 use Rattle.std.proofs.Common.{◌≡◌, true, sym, ap, ◌∙◌}
-use Rattle.std.specs.List.{list_any}
 use Rattle.std.proofs.lemmas.Bool.{or_left}
 use Rattle.view_trait.specs.Present.{pair_leads, any_pair_leads}
 use Rattle.view_trait.proofs.presence.any_pair_present.Goals as goal

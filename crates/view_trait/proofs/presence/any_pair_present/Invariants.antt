@@ -1,4 +1,4 @@
-use Rattle.std.proofs.Common.{◌≡◌, ◌<◌, ℕ, length}
+use Rattle.std.proofs.Common.{◌≡◌, ◌<◌, length}
 use Rattle.std.specs.List.{AllByRecursion}
 use Rattle.view_trait.specs.Present.{any_pair_leads}
 use Rattle.view_trait.proofs.presence.any_pair_present.Given as goal

@@ -1,4 +1,4 @@
-use Rattle.std.proofs.Common.{sym, ◌∙◌}
+use Rattle.std.proofs.Common.{◌∙◌}
 use Rattle.view_trait.specs.Meaning.{node_at}
 use Rattle.view_trait.proofs.Found.{node_tells, has_last}
 use Rattle.view_trait.proofs.presence.has_event.Goals as goal

@@ -1,10 +1,8 @@
 use Rattle.std.proofs.Common.{◌≡◌, ◌||◌, sym, ap, ◌∙◌}
 use Rattle.graph_model.specs.World.{events_of}
-use Rattle.graph_store.specs.Paired.{pairs_from, pairs_to}
 use Rattle.graph_model.specs.Presence.{node_present as is_present}
 use Rattle.graph_store.specs.Contents.{name_at}
 use Rattle.view_trait.specs.Meaning.{node_at}
-use Rattle.view_trait.specs.Present.{any_pair_leads}
 use Rattle.view_trait.proofs.Found.{last_some, last_none}
 use Rattle.view_trait.proofs.Pairs.{any_pair, node_is}
 use Rattle.view_trait.proofs.presence.node_present.Given.{Over}

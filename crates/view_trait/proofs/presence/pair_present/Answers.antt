@@ -1,9 +1,8 @@
-use Rattle.std.proofs.Common.{◌≡◌, ◌<◌, ◌||◌, ℕ, true, false, length, List, [], ◌∷◌, refl, sym, ap, subst, ◌∙◌}
+use Rattle.std.proofs.Common.{◌≡◌, ◌<◌, ℕ, true, length, sym, ap, subst, ◌∙◌}
 use Rattle.std.specs.List.{list_any, AllByRecursion}
 use Rattle.std.proofs.lemmas.Bool.{or_left}
 use Rattle.graph_model.specs.Presence.{edge_present}
 use Rattle.graph_store.specs.Ends.{ends_at}
-use Rattle.graph_store.specs.Parts.{ends_of}
 use Rattle.graph_store.specs.Linked.{edges_between}
 use Rattle.graph_store.specs.Contents.{Contents}
 use Rattle.view_trait.specs.Meaning.{edge_named}

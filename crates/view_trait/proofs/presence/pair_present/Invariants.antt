@@ -1,4 +1,4 @@
-use Rattle.std.proofs.Common.{◌≡◌, ◌<◌, ℕ, length}
+use Rattle.std.proofs.Common.{◌≡◌, ◌<◌, length}
 use Rattle.std.specs.List.{list_any, AllByRecursion}
 use Rattle.graph_model.specs.Presence.{edge_present}
 use Rattle.view_trait.specs.Meaning.{edge_named}
