@@ -1,9 +1,9 @@
 //! Views of all that a store has accepted.
-ghost use Rattle.std.specs.Prelude.{◌≡◌, ◌≤◌, ◌↔◌, IsNone, IfSome, length};
+ghost use Rattle.std.specs.Prelude.{◌≡◌, ◌↔◌, IsNone, IfSome};
 ghost use Rattle.graph_model.specs.declared.events.Model.TheVariants.{Event as Instants, Persistent as Lasting};
-ghost use Rattle.graph_model.specs.World.{IsLawful};
 ghost use Rattle.graph_store.specs.Contents.{base_of};
-ghost use Rattle.graph_store.specs.Indexed.{IsIndexed};
+ghost use Rattle.view_trait.specs.Meaning.{IsShown};
+ghost use Rattle.view_trait.proofs.OneProof.{IsShown-prop};
 
 use graph_model::{Bounds, Model};
 use graph_store::{EdgeId, NodeId, Store};
@@ -16,9 +16,7 @@ use view_trait::View;
 #[derive(Clone, Copy)]
 pub struct EventGraph<'g> {
     store: &'g Store,
-    ghost lawful: { IsLawful (base_of store.now) },
-    ghost indexed: { IsIndexed store.now },
-    ghost few_layers: { length store.now.layers ≤ 64 },
+    ghost shown: { IsShown store.now (base_of store.now) } by { IsShown-prop store.now (base_of store.now) },
 }
 
 impl<'g> EventGraph<'g> {
@@ -41,7 +39,6 @@ impl<'g> EventGraph<'g> {
 
 impl View for EventGraph<'_> {
     ghost use Rattle.graph_model.specs.Searches.{Searches};
-    ghost use Rattle.view_trait.proofs.Whole.{IsShown-base};
 
     ghost contents = { λ graph. graph.store.now };
 
@@ -49,7 +46,7 @@ impl View for EventGraph<'_> {
 
     ghost searches = { λ _. record { nodes = 0; edges = 0 } };
 
-    ghost shown = { λ graph. IsShown-base graph.store.now graph.lawful graph.indexed graph.few_layers };
+    ghost shown = { λ graph. graph.shown };
 
     fn store(&self) -> &Store {
         self.store
@@ -76,9 +73,7 @@ impl View for EventGraph<'_> {
 #[derive(Clone, Copy)]
 pub struct PersistentGraph<'g> {
     store: &'g Store,
-    ghost lawful: { IsLawful (base_of store.now) },
-    ghost indexed: { IsIndexed store.now },
-    ghost few_layers: { length store.now.layers ≤ 64 },
+    ghost shown: { IsShown store.now (base_of store.now) } by { IsShown-prop store.now (base_of store.now) },
 }
 
 impl<'g> PersistentGraph<'g> {
@@ -101,7 +96,6 @@ impl<'g> PersistentGraph<'g> {
 
 impl View for PersistentGraph<'_> {
     ghost use Rattle.graph_model.specs.Searches.{Searches};
-    ghost use Rattle.view_trait.proofs.Whole.{IsShown-base};
 
     ghost contents = { λ graph. graph.store.now };
 
@@ -109,7 +103,7 @@ impl View for PersistentGraph<'_> {
 
     ghost searches = { λ _. record { nodes = 0; edges = 0 } };
 
-    ghost shown = { λ graph. IsShown-base graph.store.now graph.lawful graph.indexed graph.few_layers };
+    ghost shown = { λ graph. graph.shown };
 
     fn store(&self) -> &Store {
         self.store

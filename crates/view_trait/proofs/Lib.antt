@@ -13,3 +13,4 @@ pub mod SpanTimes
 pub mod Selected
 pub mod Drawn
 pub mod ReadyWorlds
+pub mod OneProof

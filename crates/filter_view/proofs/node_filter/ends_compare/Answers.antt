@@ -28,7 +28,7 @@ returns-else-node_compares-clause-holds g c =
     let test = λ (n : ℕ). node_compares contents (g.V.View.world c.args.view.now) c.args.key c.args.cmp c.args.value.now (name_at contents.nodes n) in
     let src = c.edge_parts-layer.ensures.src ∙ ap (λ (s : Contents). (parts_at s.edges c.args.e.0).src) c.store.ensures in
     let first : test (parts_at contents.edges c.args.e.0).src ≡ false = ap test (sym src) ∙ (sym c.node_compares.ensures.holds ∙ c.if-node_compares.false) in
-    sym (ap (λ b. b && test (parts_at contents.edges c.args.e.0).dst) first)
+    c.if-node_compares.false ∙ sym (ap (λ b. b && test (parts_at contents.edges c.args.e.0).dst) first)
 
 pub returns-then-node_compares-clause-cost : goal.returns-then-node_compares-clause-cost
 returns-then-node_compares-clause-cost g c =
