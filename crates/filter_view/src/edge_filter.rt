@@ -11,22 +11,12 @@ use view_trait::{View, nothing};
 
 /// What its inner view shows of nodes, and of edges whose value of a key compares true. A key is
 /// the number of a key of edges. Where there is no number, or no key has it, no edge is shown.
+#[derive(Drop)]
 pub struct EdgeFilter<'k, V> {
     pub inner: V,
     pub key: Option<u32>,
     pub cmp: Cmp,
     pub value: &'k Value,
-}
-
-impl<V: Drop> Drop for EdgeFilter<'_, V> {
-    fn drop(self) {
-        let EdgeFilter {
-            inner: _,
-            key: _,
-            cmp: _,
-            value: _,
-        } = self;
-    }
 }
 
 /// The edges whose value of this key compares true.

@@ -16,22 +16,12 @@ use view_trait::{View, nothing};
 /// What its inner view shows of nodes whose value of a key compares true, and of the edges between
 /// them. A key is the number of a key of nodes. Where there is no number, or no key has it, nothing
 /// is shown.
+#[derive(Drop)]
 pub struct NodeFilter<'k, V> {
     pub inner: V,
     pub key: Option<u32>,
     pub cmp: Cmp,
     pub value: &'k Value,
-}
-
-impl<V: Drop> Drop for NodeFilter<'_, V> {
-    fn drop(self) {
-        let NodeFilter {
-            inner: _,
-            key: _,
-            cmp: _,
-            value: _,
-        } = self;
-    }
 }
 
 /// The nodes whose value of this key compares true, and the edges between them.

@@ -1,5 +1,9 @@
 //! The view of some nodes, and of the edges between them.
 ghost use Rattle.std.specs.Prelude.{◌≡◌, true, false};
+ghost use Rattle.graph_model.specs.World.{World};
+ghost use Rattle.graph_model.specs.Keep.{keep, apart_from_nodes};
+ghost use Rattle.graph_store.specs.Contents.{Contents};
+ghost use Rattle.view_trait.specs.Numbered.{node_world, nodes_numbered};
 
 use graph_model::Bounds;
 use graph_store::{EdgeId, NodeId, Store};
@@ -35,6 +39,7 @@ pub fn exclude_nodes<'k, V>(inner: V, dropped: &'k NodeList) -> NodeView<'k, V>
     ensures inner { result.inner ≡ inner }
     ensures nodes { result.nodes.now ≡ dropped.now }
     ensures keeps { result.keeps ≡ false }
+    ensures world { (c : Contents) (w : World) → node_world c result.keeps result.nodes.now w ≡ keep (apart_from_nodes (nodes_numbered c dropped.now)) w }
 {
     NodeView {
         inner,
@@ -44,7 +49,6 @@ pub fn exclude_nodes<'k, V>(inner: V, dropped: &'k NodeList) -> NodeView<'k, V>
 }
 
 impl<V: View> View for NodeView<'_, V> {
-    ghost use Rattle.view_trait.specs.Numbered.{node_world};
     ghost use Rattle.view_trait.proofs.Kept.{IsShown-node_world};
 
     ghost contents = { λ view. V.contents view.inner };

@@ -1,6 +1,6 @@
-//! Views of all that a store has accepted.
+//! The graph of a store of the event model.
 ghost use Rattle.std.specs.Prelude.{◌≡◌, ◌↔◌, IsNone, IfSome};
-ghost use Rattle.graph_model.specs.declared.events.Model.TheVariants.{Event as Instants, Persistent as Lasting};
+ghost use Rattle.graph_model.specs.declared.events.Model.TheVariants.{Persistent as Lasting};
 ghost use Rattle.graph_store.specs.Contents.{base_of};
 ghost use Rattle.view_trait.specs.Meaning.{IsShown};
 ghost use Rattle.view_trait.proofs.OneProof.{IsShown-prop};
@@ -38,63 +38,6 @@ impl<'g> EventGraph<'g> {
 }
 
 impl View for EventGraph<'_> {
-    ghost use Rattle.graph_model.specs.Searches.{Searches};
-
-    ghost contents = { λ graph. graph.store.now };
-
-    ghost world = { λ graph. base_of graph.store.now };
-
-    ghost searches = { λ _. record { nodes = 0; edges = 0 } };
-
-    ghost shown = { λ graph. graph.shown };
-
-    fn store(&self) -> &Store {
-        self.store
-    }
-
-    fn bounds(&self) -> Bounds {
-        self.store.bounds()
-    }
-
-    fn layers_kept(&self) -> u64 {
-        u64::MAX
-    }
-
-    fn node_span<L: Ledger>(&self, n: NodeId, _steps: &mut Steps<L>) -> Span {
-        self.store.node_history(n).whole()
-    }
-
-    fn edge_span<L: Ledger>(&self, e: EdgeId, _steps: &mut Steps<L>) -> Span {
-        self.store.edge_history(e).whole()
-    }
-}
-
-/// All that a store has accepted, in the persistent model.
-#[derive(Clone, Copy)]
-pub struct PersistentGraph<'g> {
-    store: &'g Store,
-    ghost shown: { IsShown store.now (base_of store.now) } by { IsShown-prop store.now (base_of store.now) },
-}
-
-impl<'g> PersistentGraph<'g> {
-    /// The graph of a store, unless its edges are instants.
-    pub fn over(store: &'g Store) -> Option<PersistentGraph<'g>>
-        ensures none { IsNone result ↔ (store.now.model ≡ Instants) }
-        ensures some { IfSome result (λ graph. graph.store.now ≡ store.now) }
-    {
-        match store.model() {
-            Model::Persistent => {
-                let _lawful = store.events();
-                let _indexed = store.nodes();
-                let _few = store.layers();
-                Some(PersistentGraph { store })
-            }
-            Model::Event => None,
-        }
-    }
-}
-
-impl View for PersistentGraph<'_> {
     ghost use Rattle.graph_model.specs.Searches.{Searches};
 
     ghost contents = { λ graph. graph.store.now };

@@ -2,7 +2,7 @@ use Rattle.std.proofs.Common.{refl}
 use Rattle.view_trait.specs.Meaning.{node_at}
 use Rattle.view_trait.proofs.Found.{node_tells}
 use Rattle.view_trait.proofs.Whole.{Shows-whole}
-use Rattle.base_graphs.proofs.view.EventGraphView.node_span.Goals as goal
+use Rattle.base_graphs.proofs.persistent_graph.PersistentGraphView.node_span.Goals as goal
 
 pub returns-clause-shows : goal.returns-clause-shows
 returns-clause-shows g c =

@@ -2,7 +2,7 @@ use Rattle.std.proofs.Common.{refl}
 use Rattle.view_trait.specs.Meaning.{edge_at}
 use Rattle.view_trait.proofs.Found.{edge_tells}
 use Rattle.view_trait.proofs.Whole.{Shows-whole}
-use Rattle.base_graphs.proofs.view.PersistentGraphView.edge_span.Goals as goal
+use Rattle.base_graphs.proofs.event_graph.EventGraphView.edge_span.Goals as goal
 
 pub returns-clause-shows : goal.returns-clause-shows
 returns-clause-shows g c =

@@ -1,6 +1,6 @@
 use Rattle.graph_store.specs.Contents.{base_of}
 use Rattle.view_trait.proofs.Whole.{HasLayers-all}
-use Rattle.base_graphs.proofs.view.PersistentGraphView.layers_kept.Goals as goal
+use Rattle.base_graphs.proofs.event_graph.EventGraphView.layers_kept.Goals as goal
 
 pub returns : goal.returns
 returns c =

@@ -1,6 +1,6 @@
 use Rattle.std.proofs.Common.{◌≤◌, length, arith}
 use Rattle.view_trait.proofs.Whole.{IsShown-base}
-use Rattle.base_graphs.proofs.view.EventGraph.over.Goals as goal
+use Rattle.base_graphs.proofs.persistent_graph.PersistentGraph.over.Goals as goal
 
 pub invariant_of-result : goal.invariant_of-result
 invariant_of-result c =
