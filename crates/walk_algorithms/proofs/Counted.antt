@@ -1,19 +1,23 @@
 -- Links that are counted at their ends, one after another.
 use Rattle.std.proofs.Common.{◌≡◌, ℕ, ◌+◌, ◌<◌, ◌≤◌, Bool, true, false, not, ◌&&◌, List, [], ◌∷◌, ◌++◌, cond, length, take, refl, sym, ◌∙◌, ap, subst, arith, ⊎_elim}
-use Rattle.std.specs.Prelude.{◌==◌, slice_set, Option, Some, None, is_some, option_map, position}
+use Rattle.std.specs.Prelude.{◌==◌, slice_set, Some, None, position}
 use Rattle.std.specs.List.{filter, list_any}
-use Rattle.std.proofs.lemmas.Int.{clamps}
 use Rattle.std.proofs.lemmas.Bool.{cases_eq, eq-eqb, ne_eqb}
-use Rattle.std.proofs.lemmas.List.{length-append, length-set, length-take, get_or-set_same, get_or-set_other, append-nil, take_more}
+use Rattle.std.proofs.lemmas.List.{length-append, length-set, get_or-set_same, get_or-set_other, append-nil}
 use Rattle.std.proofs.lemmas.List.Elements.{filter-append}
+use Rattle.std.proofs.lemmas.List.Quantifiers.{position-Some}
+use Rattle.graph_model.specs.World.{World}
 use Rattle.world_laws.proofs.Counts.{length_filter_le}
 use Rattle.graph_store.specs.declared.pairs.Ends.{Ends}
-use Rattle.graph_store.specs.declared.walks.PairId.{PairId}
 use Rattle.graph_store.specs.Ends.{ends_at, same_ends}
+use Rattle.graph_store.specs.Contents.{Contents}
+use Rattle.graph_store.proofs.LinkLaws.{same_ends-equal}
 use Rattle.graph_store.proofs.Readers.{none_found, one_found}
 use Rattle.walk_algorithms.specs.declared.ways.Ways.{Ways}
-use Rattle.walk_algorithms.specs.Links.{links_from, links_to, leads_back, alone_among}
+use Rattle.walk_algorithms.specs.Links.{links_from, links_to, links_of, leads_back, alone_among, pair_shown}
+use Rattle.walk_algorithms.specs.Flags.{AreShown, flag_at}
 use Rattle.walk_algorithms.specs.Counted.{IsCounted, ways_at, with_in, with_out}
+use Rattle.walk_algorithms.proofs.Keyed.{any_same_kept, filter_more, short_take}
 
 -- a way of a number that changes is read where the number is that one
 at_set : (ways : List Ways) (k n : ℕ) (f : Ways → Ways) → k < length ways → ways_at (slice_set ways k (f (ways_at ways k))) n ≡ cond (k == n) (f (ways_at ways n)) (ways_at ways n)
@@ -103,39 +107,56 @@ out_leaves ways k n below =
     alone true = refl
     alone false = refl
 
--- a look-up finds whether a link leads back
-back_known : (all : List Ends) (p : Ends) (found : Option ℕ) → found ≡ position (same_ends p) all → is_some found ≡ list_any (same_ends p) all
-back_known all p None e = sym (none_found (same_ends p) all (sym e))
-back_known all p (Some i) e = sym (one_found (same_ends p) all i p (sym e))
+-- a look-up finds whether a link leads from one node to another
+pub led_none : (c : Contents) (w : World) (ends : Ends) → position (same_ends ends) c.pairs ≡ None → false ≡ list_any (same_ends ends) (links_of c w)
+led_none c w ends e = sym (any_same_kept same_ends same_ends-equal (pair_shown c w) ends c.pairs ∙ (ap (λ t. pair_shown c w ends && t) (none_found (same_ends ends) c.pairs e) ∙ never (pair_shown c w ends)))
+  where
+    never : (t : Bool) → (t && false) ≡ false
+    never true = refl
+    never false = refl
 
-some_numbered : (o : Option PairId) → is_some (option_map (λ (p : PairId). p.0) o) ≡ is_some o
-some_numbered None = refl
-some_numbered (Some p) = refl
+pub led_some : (c : Contents) (w : World) (flags : List Bool) → AreShown c w flags → (ends : Ends) (i : ℕ) → position (same_ends ends) c.pairs ≡ Some i → (i < length flags) × (flag_at flags i ≡ list_any (same_ends ends) (links_of c w))
+led_some c w flags h ends i e =
+    let r = position-Some (same_ends ends) c.pairs i (record { src = 0; dst = 0 }) e in
+    let long = h.len in (
+      (let lt = r.0 in omega arith),
+      h.shown i r.0
+          ∙ (ap (pair_shown c w) (sym (same_ends-equal ends (ends_at c.pairs i) r.1))
+          ∙ sym (any_same_kept same_ends same_ends-equal (pair_shown c w) ends c.pairs ∙ (ap (λ t. pair_shown c w ends && t) (one_found (same_ends ends) c.pairs i ends e) ∙ always (pair_shown c w ends)))),
+    )
+  where
+    always : (t : Bool) → (t && true) ≡ t
+    always true = refl
+    always false = refl
 
-module _ (all : List Ends) (i nodes : ℕ) (ways : List Ways) (below : i < length all) (h : IsCounted all (take i all) nodes ways) where
+module _ (c : Contents) (w : World) (i : ℕ) (ways : List Ways) (below : i < length c.pairs) (h : IsCounted (links_of c w) (filter (pair_shown c w) (take i c.pairs)) (length c.nodes) ways) where
+  -- a pair that is no link leaves the count as it is
+  pub counted_same : pair_shown c w (ends_at c.pairs i) ≡ false → IsCounted (links_of c w) (filter (pair_shown c w) (take (i + 1) c.pairs)) (length c.nodes) ways
+  counted_same e =
+      let same : filter (pair_shown c w) (take (i + 1) c.pairs) ≡ filter (pair_shown c w) (take i c.pairs) = filter_more (pair_shown c w) c.pairs i (record { src = 0; dst = 0 }) below ∙ rw e (append-nil (filter (pair_shown c w) (take i c.pairs))) in
+      subst (λ xs. IsCounted (links_of c w) xs (length c.nodes) ways) (sym same) h
+
   -- the link of a number, counted with those before it
-  pub counted_next : (src dst : ℕ) (found : Option PairId) (mid after : List Ways) → src ≡ (ends_at all i).src → dst ≡ (ends_at all i).dst → src < nodes → dst < nodes
-      → option_map (λ (p : PairId). p.0) found ≡ position (same_ends (record { src = dst; dst = src })) all
-      → mid ≡ slice_set ways src (with_out (ways_at ways src)) → after ≡ slice_set mid dst (with_in (is_some found) (ways_at mid dst)) → IsCounted all (take (i + 1) all) nodes after
-  counted_next src dst found mid after is_src is_dst below_src below_dst is_found is_mid is_after =
+  pub counted_next : pair_shown c w (ends_at c.pairs i) ≡ true → (src dst : ℕ) (back : Bool) (mid after : List Ways) → src ≡ (ends_at c.pairs i).src → dst ≡ (ends_at c.pairs i).dst → src < length c.nodes → dst < length c.nodes
+      → back ≡ list_any (same_ends (record { src = dst; dst = src })) (links_of c w)
+      → mid ≡ slice_set ways src (with_out (ways_at ways src)) → after ≡ slice_set mid dst (with_in back (ways_at mid dst)) → IsCounted (links_of c w) (filter (pair_shown c w) (take (i + 1) c.pairs)) (length c.nodes) after
+  counted_next shown src dst back mid after is_src is_dst below_src below_dst is_back is_mid is_after =
       let p : Ends = record { src = src; dst = dst } in
-      let same : ends_at all i ≡ p = λ k. record { src = sym is_src k; dst = sym is_dst k } in
-      let more : take (i + 1) all ≡ take i all ++ p ∷ [] = take_more all i (record { src = 0; dst = 0 }) below ∙ ap (λ q. take i all ++ q ∷ []) same in
-      let back : is_some found ≡ leads_back all p = sym (some_numbered found) ∙ back_known all (record { src = dst; dst = src }) (option_map (λ (q : PairId). q.0) found) is_found in
-      subst (λ xs. IsCounted all xs nodes after) (sym more) (counted_push all (take i all) nodes ways h p (is_some found) mid after below_src below_dst back is_mid is_after)
+      let same : ends_at c.pairs i ≡ p = λ k. record { src = sym is_src k; dst = sym is_dst k } in
+      let more : filter (pair_shown c w) (take (i + 1) c.pairs) ≡ filter (pair_shown c w) (take i c.pairs) ++ p ∷ [] =
+      filter_more (pair_shown c w) c.pairs i (record { src = 0; dst = 0 }) below ∙ (rw shown refl ∙ ap (λ q. filter (pair_shown c w) (take i c.pairs) ++ q ∷ []) same) in
+      subst (λ xs. IsCounted (links_of c w) xs (length c.nodes) after) (sym more) (counted_push (links_of c w) (filter (pair_shown c w) (take i c.pairs)) (length c.nodes) ways h p back mid after below_src below_dst is_back is_mid is_after)
 
   -- there is room for one more
-  pub room_next : (n : ℕ) → n < nodes → ((ways_at ways n).outs < length all) × ((ways_at ways n).ins < length all) × ((ways_at ways n).alone < length all)
+  pub room_next : (n : ℕ) → n < length c.nodes → ((ways_at ways n).outs < length c.pairs) × ((ways_at ways n).ins < length c.pairs) × ((ways_at ways n).alone < length c.pairs)
   room_next n within =
-      let few = few_ways all (take i all) nodes ways h n within in
-      let taken : length (take i all) ≤ i = few_taken i all in
-      (omega (arith, few.0, taken), omega (arith, few.1, taken), omega (arith, few.2, taken))
-    where
-      few_taken : (k : ℕ) (xs : List Ends) → length (take k xs) ≤ k
-      few_taken k xs = rw (length-take k xs) (omega (arith, clamps))
+      let few = few_ways (links_of c w) (filter (pair_shown c w) (take i c.pairs)) (length c.nodes) ways h n within in
+      let kept = length_filter_le (pair_shown c w) (take i c.pairs) in
+      let taken = short_take i c.pairs in
+      (omega (arith, few.0, kept, taken), omega (arith, few.1, kept, taken), omega (arith, few.2, kept, taken))
 
   -- also after it is counted at its source
-  pub room_after : (src n : ℕ) (mid : List Ways) → src < nodes → n < nodes → mid ≡ slice_set ways src (with_out (ways_at ways src)) → ((ways_at mid n).ins < length all) × ((ways_at mid n).alone < length all)
+  pub room_after : (src n : ℕ) (mid : List Ways) → src < length c.nodes → n < length c.nodes → mid ≡ slice_set ways src (with_out (ways_at ways src)) → ((ways_at mid n).ins < length c.pairs) × ((ways_at mid n).alone < length c.pairs)
   room_after src n mid below_src within is_mid =
       let room = room_next n within in
       let left = out_leaves ways src n (omega (arith, h.len, below_src)) in

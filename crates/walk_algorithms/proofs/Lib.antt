@@ -2,6 +2,9 @@ pub mod Numbers
 pub mod Links
 pub mod Base
 pub mod Sorted
+pub mod Keyed
+pub mod Spent
 pub mod Counted
 pub mod Rows
 pub mod Shown
+pub mod Views

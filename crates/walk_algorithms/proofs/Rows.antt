@@ -1,32 +1,36 @@
--- The row of a node, and whether it is present, by its ways.
-use Rattle.std.proofs.Common.{◌≡◌, ℕ, ◌+◌, ◌<◌, ◌≤◌, Bool, true, false, ◌||◌, List, [], ◌∷◌, length, cond, refl, sym, ◌∙◌, ap, arith}
+-- The row of a node by its ways, and whether it has any.
+use Rattle.std.proofs.Common.{◌≡◌, ℕ, ◌+◌, ◌<◌, ◌≤◌, Bool, false, ◌||◌, List, length, map, get_or, sym, ◌∙◌, ap, arith}
 use Rattle.std.specs.Prelude.{◌==◌, nat_lt}
-use Rattle.std.specs.List.{filter, list_any}
-use Rattle.std.proofs.lemmas.Bool.{lt-ltb}
-use Rattle.std.proofs.lemmas.List.{length-map}
-use Rattle.graph_model.specs.declared.events.Entity.TheVariants.{Node}
+use Rattle.std.specs.List.{list_any}
+use Rattle.std.proofs.lemmas.List.{get_or-map, length-map}
 use Rattle.graph_model.specs.Answer.{Degrees, degree_row}
-use Rattle.graph_model.specs.Entity.{is_about}
-use Rattle.graph_model.specs.World.{World, events_of}
-use Rattle.graph_model.specs.Presence.{node_present}
-use Rattle.time_history.specs.declared.updates.Update.{Update}
-use Rattle.time_history.specs.Told.{event_told, events_told}
+use Rattle.graph_model.specs.World.{World}
 use Rattle.graph_store.specs.declared.pairs.Ends.{Ends}
 use Rattle.graph_store.specs.Contents.{name_at}
 use Rattle.walk_algorithms.specs.declared.ways.Ways.{Ways}
-use Rattle.walk_algorithms.specs.Links.{HasLinks}
-use Rattle.walk_algorithms.specs.Counted.{AreWays}
+use Rattle.walk_algorithms.specs.Links.{HasLinks, is_end}
+use Rattle.walk_algorithms.specs.Flags.{AreEnds, has_way}
+use Rattle.walk_algorithms.specs.Counted.{AreWays, IsCounted, ways_at}
+use Rattle.walk_algorithms.proofs.Keyed.{any_counted}
 use Rattle.walk_algorithms.proofs.Links.{count_both, count_in, count_out, few_neighbours}
-use Rattle.walk_algorithms.proofs.Base.{present_by_links}
 
--- some item passes a test where not none are kept by it
-any_counted : {X : Type 0} (p : X → Bool) (xs : List X) → list_any p xs ≡ nat_lt 0 (length (filter p xs))
-any_counted p [] = refl
-any_counted p (x ∷ xs) = by (p x) (any_counted p xs)
-  where
-    by : (t : Bool) → list_any p xs ≡ nat_lt 0 (length (filter p xs)) → (t || list_any p xs) ≡ nat_lt 0 (length (cond t (x ∷ filter p xs) (filter p xs)))
-    by true h = sym (lt-ltb 0 (length (x ∷ filter p xs)) (omega arith))
-    by false h = h
+-- a node has a way where a link begins or ends there
+pub way_is_end : (links : List Ends) (n : ℕ) (ways : Ways) → AreWays links links n ways → has_way ways ≡ is_end links n
+way_is_end links n ways is =
+    let outs : nat_lt 0 ways.outs ≡ list_any (λ (p : Ends). p.src == n) links = ap (nat_lt 0) is.outs ∙ sym (any_counted (λ (p : Ends). p.src == n) links) in
+    let ins : nat_lt 0 ways.ins ≡ list_any (λ (p : Ends). p.dst == n) links = ap (nat_lt 0) is.ins ∙ sym (any_counted (λ (p : Ends). p.dst == n) links) in
+    λ i. outs i || ins i
+
+-- the flags of nodes that have a way
+pub ways_are_ends : (links : List Ends) (nodes : ℕ) (ways : List Ways) (flags : List Bool) → IsCounted links links nodes ways → flags ≡ map has_way ways → AreEnds links nodes flags
+ways_are_ends links nodes ways flags h is = record {
+  len = ap length is ∙ (length-map ways has_way ∙ h.len);
+  ends = λ n below.
+      let within : n < length ways = omega (arith, h.len) in
+      ap (λ bs. get_or bs n false) is
+      ∙ (get_or-map has_way ways n (record { ins = 0; outs = 0; alone = 0 }) false within
+      ∙ way_is_end links n (ways_at ways n) (h.counted n below));
+}
 
 module _ (w : World) (names : List (List ℕ)) (links : List Ends) (h : HasLinks w names links) (n : ℕ) (exists : n < length names) (ways : Ways) (is : AreWays links links n ways) where
   -- the degrees of a node are its ways inwards and outwards, and those outwards with those that have no way back
@@ -39,37 +43,3 @@ module _ (w : World) (names : List (List ℕ)) (links : List Ends) (h : HasLinks
 
   pub few_both : ways.outs + ways.alone ≤ length names
   few_both = omega (arith, is.outs, is.alone, few_neighbours w names links h n exists)
-
-  by_links : (nat_lt 0 ways.outs || nat_lt 0 ways.ins) ≡ (list_any (λ (p : Ends). p.src == n) links || list_any (λ (p : Ends). p.dst == n) links)
-  by_links =
-      let outs : nat_lt 0 ways.outs ≡ list_any (λ (p : Ends). p.src == n) links = ap (nat_lt 0) is.outs ∙ sym (any_counted (λ (p : Ends). p.src == n) links) in
-      let ins : nat_lt 0 ways.ins ≡ list_any (λ (p : Ends). p.dst == n) links = ap (nat_lt 0) is.ins ∙ sym (any_counted (λ (p : Ends). p.dst == n) links) in
-      λ i. outs i || ins i
-
-  own : Bool
-  own = list_any (is_about (Node (name_at names n))) w.events
-
-  present_ways : node_present w (name_at names n) ≡ (own || (nat_lt 0 ways.outs || nat_lt 0 ways.ins))
-  unfolding own
-  present_ways = present_by_links w names links h n exists ∙ ap (λ t. list_any (is_about (Node (name_at names n))) w.events || t) (sym by_links)
-
-  -- a node is present where it has a way
-  pub present_by_ways : (nat_lt 0 ways.outs || nat_lt 0 ways.ins) ≡ true → true ≡ node_present w (name_at names n)
-  present_by_ways e = sym (present_ways ∙ (ap (λ t. own || t) e ∙ always own))
-    where
-      always : (t : Bool) → (t || true) ≡ true
-      always true = refl
-      always false = refl
-
-  -- and else where it has an update
-  pub present_by_updates : (keys : ℕ → List ℕ) (updates : List Update) → events_told (Node (name_at names n)) keys updates ≡ events_of w (Node (name_at names n)) → (nat_lt 0 ways.outs || nat_lt 0 ways.ins) ≡ false
-      → nat_lt 0 (length updates) ≡ node_present w (name_at names n)
-  unfolding own
-  present_by_updates keys updates told none =
-      ap (nat_lt 0) (sym (length-map updates (event_told (Node (name_at names n)) keys)) ∙ ap length told)
-      ∙ (sym (any_counted (is_about (Node (name_at names n))) w.events)
-      ∙ sym (present_ways ∙ (ap (λ t. list_any (is_about (Node (name_at names n))) w.events || t) none ∙ alone (list_any (is_about (Node (name_at names n))) w.events))))
-    where
-      alone : (t : Bool) → (t || false) ≡ t
-      alone true = refl
-      alone false = refl

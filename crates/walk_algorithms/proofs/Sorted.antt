@@ -1,27 +1,22 @@
 -- The present nodes of a store, sorted by name.
-use Rattle.std.proofs.Common.{◌≡◌, ℕ, zero, suc, ◌+◌, ◌<◌, Bool, true, false, ◌&&◌, List, [], ◌∷◌, ◌++◌, length, map, take, get_or, refl, sym, ◌∙◌, ap, subst, arith}
-use Rattle.std.specs.Prelude.{IsPermutation, IsSortedBy, is_some}
+use Rattle.std.proofs.Common.{◌≡◌, ℕ, zero, suc, ◌<◌, Bool, true, false, ◌&&◌, List, [], ◌∷◌, length, map, get_or, refl, sym, ◌∙◌, ap, subst, arith}
+use Rattle.std.specs.Prelude.{IsPermutation, IsSortedBy}
 use Rattle.std.specs.List.{filter, list_any, IsDistinct, AllByRecursion}
 use Rattle.std.specs.declared.cmp.Ordering.{Ordering}
 use Rattle.std.specs.declared.cmp.Ordering.TheVariants.{Less, Equal, Greater}
 use Rattle.std.specs.Ordering.{is_eq, is_lt, ordering_reverse}
-use Rattle.std.proofs.lemmas.Bool.{and_parts, and_from, or_left}
-use Rattle.std.proofs.lemmas.List.{take_more}
-use Rattle.std.proofs.lemmas.List.Elements.{filter-append}
+use Rattle.std.proofs.lemmas.Bool.{and_parts, and_from}
 use Rattle.std.proofs.lemmas.List.MinMax.{ranks_by}
 use Rattle.std.proofs.lemmas.List.Sorted.{sorted_far, list_any-IsPermutation}
 use Rattle.std.proofs.lemmas.Map.Keys.{IsDistinct-head, IsDistinct-tail, IsDistinct-cons, IsDistinct-from_apart, IsDistinct-IsPermutation, apart_from_distinct}
 use Rattle.std.proofs.lemmas.Map.Made.{is_member-filter}
 use Rattle.graph_model.specs.Names.{name_cmp, same_name, name_equiv, name_total}
 use Rattle.graph_model.specs.Rising.{Rises}
-use Rattle.graph_model.specs.Entity.{entities, entity_of, involves, names_in}
-use Rattle.graph_model.specs.World.{World, event_cmp, named as named_by, type_of}
+use Rattle.graph_model.specs.World.{World}
 use Rattle.graph_model.specs.Presence.{node_present, nodes}
 use Rattle.world_laws.proofs.Order.{name_exact, same_name-exact}
-use Rattle.world_laws.proofs.Members.{any_entities, any_flat_map, both_true, named, nodes_has, nodes_rise}
-use Rattle.world_laws.proofs.RisingFixed.{any_in_order, rising_fixed}
-use Rattle.graph_store.specs.Contents.{Contents, base_of, name_at}
-use Rattle.graph_store.specs.Indexed.{IsIndexed}
+use Rattle.world_laws.proofs.Members.{both_true, nodes_has, nodes_rise}
+use Rattle.world_laws.proofs.RisingFixed.{rising_fixed}
 use Rattle.graph_store.proofs.EdgeNames.{each_from}
 use Rattle.walk_algorithms.proofs.Numbers.{any_map, distinct_filter}
 
@@ -82,17 +77,3 @@ module _ {X : Type 0} (key : X → List ℕ) where
       ∙ (is_member-filter name_equiv (node_present w) b (λ x e. ap (node_present w) (same_name-exact b x e)) names
       ∙ (both_true (list_any (same_name b) names && node_present w b) (node_present w b) (λ e. (and_parts (list_any (same_name b) names) (node_present w b) e).1) (λ e. and_from (list_any (same_name b) names) (node_present w b) (known b e) e)
       ∙ sym (nodes_has w b)))))))
-
--- a present node of the base world has a number
-pub present_known : (c : Contents) → IsIndexed c → (b : List ℕ) → node_present (base_of c) b ≡ true → list_any (same_name b) c.nodes ≡ true
-present_known c indexed b h =
-    indexed.known_nodes b
-    ∙ or_left (named_by c.accepted b) (is_some (type_of c.types b))
-    (sym (any_in_order event_cmp (λ x. involves b (entity_of x)) c.accepted)
-    ∙ (sym (any_entities (λ e. list_any (same_name b) (names_in e)) (base_of c).events)
-    ∙ (sym (any_flat_map (same_name b) names_in (entities (base_of c).events))
-    ∙ named (base_of c) b h)))
-
--- one more name
-pub filter_more : (p : List ℕ → Bool) (names : List (List ℕ)) (i : ℕ) → i < length names → filter p (take (i + 1) names) ≡ filter p (take i names) ++ filter p (name_at names i ∷ [])
-filter_more p names i below = ap (filter p) (take_more names i [] below) ∙ filter-append p (take i names) (name_at names i ∷ [])

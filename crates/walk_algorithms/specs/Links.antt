@@ -1,5 +1,5 @@
 -- Links: the pairs of numbered nodes between which the present edges of a world lead.
-use Rattle.std.specs.Prelude.{ℕ, List, Bool, not, ◌==◌, ◌≡◌, ◌<◌, ◌↔◌, IsTrue, length, map}
+use Rattle.std.specs.Prelude.{ℕ, List, Bool, not, ◌||◌, ◌==◌, ◌≡◌, ◌<◌, ◌↔◌, IsTrue, length, map}
 use Rattle.std.specs.List.{filter, list_any, IsDistinct, AllByRecursion}
 use Rattle.graph_model.specs.declared.events.EdgeName.{EdgeName}
 use Rattle.graph_model.specs.Names.{same_name}
@@ -48,6 +48,22 @@ ShowsEdges c w shown = (edge : EdgeName) → IsTrue (edge_present w edge) ↔ ((
 -- the pairs with an edge that is shown
 abbrev pub shown_links : (ℕ → Bool) → Contents → List Ends
 shown_links shown c = filter (has_shown shown c) c.pairs
+
+-- whether a world shows the edge of a number
+abbrev pub edge_shown : Contents → World → ℕ → Bool
+edge_shown c w e = edge_present w (edge_name c.nodes c.layers (parts_at c.edges e))
+
+-- whether it shows an edge of a pair
+abbrev pub pair_shown : Contents → World → Ends → Bool
+pair_shown c w p = has_shown (edge_shown c w) c p
+
+-- the links of a world over a store: the pairs with an edge that it shows
+abbrev pub links_of : Contents → World → List Ends
+links_of c w = shown_links (edge_shown c w) c
+
+-- whether a link begins or ends at a node
+abbrev pub is_end : List Ends → ℕ → Bool
+is_end links n = list_any (λ (p : Ends). p.src == n) links || list_any (λ (p : Ends). p.dst == n) links
 
 -- the names of the nodes to which links lead from a node, and of those from which they lead to it
 abbrev pub names_out : List (List ℕ) → List Ends → ℕ → List (List ℕ)

@@ -1,21 +1,24 @@
-//! The degrees of the nodes of an event graph.
-ghost use Rattle.std.specs.Prelude.{◌≡◌, ℕ, ◌<◌, Some, length, map, slice_get, IfOk};
+//! The degrees of the nodes of a view.
+ghost use Rattle.std.specs.Prelude.{◌≡◌, ◌<◌, ◌+◌, ◌*◌, Some, length, map, slice_get, IfOk};
 ghost use Rattle.std.specs.List.{All};
 ghost use Rattle.graph_model.specs.declared.events.Model.TheVariants.{Event as Instants};
 ghost use Rattle.graph_model.specs.Answer.{degree_row};
 ghost use Rattle.graph_model.specs.Presence.{nodes};
-ghost use Rattle.graph_model.specs.World.{IsLawful};
-ghost use Rattle.graph_store.specs.Contents.{base_of, name_at};
-ghost use Rattle.graph_store.specs.Indexed.{IsIndexed};
+ghost use Rattle.view_trait.specs.Meaning.{IsWithin};
+ghost use Rattle.walk_algorithms.specs.Links.{links_of};
 ghost use Rattle.walk_algorithms.specs.Degrees.{degree_row_of, IsNamed};
-ghost use Rattle.walk_algorithms.specs.Counted.{AreWays, IsCounted};
+ghost use Rattle.walk_algorithms.specs.Counted.{IsCounted};
 
 use crate::present_nodes::{Named, sorted_nodes};
-use crate::ways::{Ways, count_pairs};
+use crate::shown_pairs::shown_pairs;
+use crate::ways::{Ways, count_pairs, linked_nodes};
 use graph_model::Memory;
-use graph_store::{NodeId, Store};
+use graph_store::NodeId;
 use std::alloc::Global;
 use std::marker::Model;
+use std::sync::ledger::Ledger;
+use time_column::Steps;
+use view_trait::View;
 
 /// How many neighbours of a node lead to it, how many it leads to, and how many do either. A node
 /// that leads to itself is its own neighbour, and counts once each way and once in all.
@@ -60,16 +63,13 @@ impl DegreeRows {
 }
 
 /// The degrees of a named node.
-fn degree_of(store: &Store, x: Named<'_>, ways: &[Ways]) -> Degree
-    requires model { store.now.model ≡ Instants }
-    requires lawful { IsLawful (base_of store.now) }
-    requires indexed { IsIndexed store.now }
-    requires named { IsNamed store.now x }
-    requires ways { IsCounted store.now.pairs store.now.pairs (length store.now.nodes) ways.now }
+fn degree_of<V: View>(view: &V, x: Named<'_>, ways: &[Ways]) -> Degree
+    requires named { IsNamed (V.contents view.now) x }
+    requires ways { IsCounted (links_of (V.contents view.now) (V.world view.now)) (links_of (V.contents view.now) (V.world view.now)) (length (V.contents view.now).nodes) ways.now }
     ensures node { result.node ≡ x.entry.node }
-    ensures row { degree_row_of store.now result ≡ degree_row (base_of store.now) x.entry.name.now }
+    ensures row { degree_row_of (V.contents view.now) result ≡ degree_row (V.world view.now) x.entry.name.now }
 {
-    let _few = store.nodes();
+    let _few = view.store().nodes();
     let ways = ways[x.node.0 as usize];
     Degree {
         node: x.node,
@@ -80,36 +80,51 @@ fn degree_of(store: &Store, x: Named<'_>, ways: &[Ways]) -> Degree
 }
 
 /// The degrees of named nodes, in their order.
-fn degrees_of(
+fn degrees_of<V: View>(
     alloc: Global,
-    store: &Store,
+    view: &V,
     named: &[Named<'_>],
     ways: &[Ways],
 ) -> Result<DegreeRows, Memory>
-    requires model { store.now.model ≡ Instants }
-    requires lawful { IsLawful (base_of store.now) }
-    requires indexed { IsIndexed store.now }
-    requires ways { IsCounted store.now.pairs store.now.pairs (length store.now.nodes) ways.now }
-    requires numbers { All (IsNamed store.now) named.now }
-    ensures rows { IfOk result (λ rows. map (degree_row_of store.now) rows ≡ map (degree_row (base_of store.now)) (map (λ x. x.name.now) named.now)) }
-    ensures known { IfOk result (λ rows. All (λ d. d.node.0 < length store.now.nodes) rows) }
+    requires ways { IsCounted (links_of (V.contents view.now) (V.world view.now)) (links_of (V.contents view.now) (V.world view.now)) (length (V.contents view.now).nodes) ways.now }
+    requires numbers { All (IsNamed (V.contents view.now)) named.now }
+    ensures rows { IfOk result (λ rows. map (degree_row_of (V.contents view.now)) rows ≡ map (degree_row (V.world view.now)) (map (λ x. x.name.now) named.now)) }
+    ensures known { IfOk result (λ rows. All (λ d. d.node.0 < length (V.contents view.now).nodes) rows) }
 {
     let mut rows = Vec::with_capacity(alloc, named.len())?;
     for x in named {
-        rows.push(degree_of(store, *x, ways))?;
+        rows.push(degree_of(view, *x, ways))?;
     }
     Ok(DegreeRows { rows })
 }
 
-/// The degrees of the present nodes of an event graph, rising by the bytes of their names.
-pub fn degrees(alloc: Global, store: &Store) -> Result<DegreeRows, Memory>
-    requires model { store.now.model ≡ Instants }
-    ensures rows { IfOk result (λ rows. map (degree_row_of store.now) rows ≡ map (degree_row (base_of store.now)) (nodes (base_of store.now))) }
-    ensures known { IfOk result (λ rows. All (λ d. d.node.0 < length store.now.nodes) rows) }
+/// The ways of all nodes by the pairs that a view shows. The span of each edge is asked once at most.
+fn shown_ways<V: View, L: Ledger>(
+    alloc: Global,
+    view: &V,
+    steps: &mut Steps<L>,
+) -> Result<Vec<Ways>, Memory>
+    ensures ways { IfOk result (λ ways. IsCounted (links_of (V.contents view.now) (V.world view.now)) (links_of (V.contents view.now) (V.world view.now)) (length (V.contents view.now).nodes) ways.items) }
+    ensures cost { (V.world view.now).model ≡ Instants → IsWithin steps.old steps.new (length (V.contents view.now).edges * (V.searches view.now).edges) (length (V.contents view.now).accepted) }
 {
-    let _indexed = store.nodes();
-    let _lawful = store.events();
-    let ways = count_pairs(alloc, store)?;
-    let named = sorted_nodes(alloc, store, ways.as_slice())?;
-    degrees_of(alloc, store, named.as_slice(), ways.as_slice())
+    let shown = shown_pairs(alloc, view, steps)?;
+    count_pairs(alloc, view, shown.as_slice())
+}
+
+/// The degrees of the present nodes, rising by the bytes of their names. The span of each node and of
+/// each edge is asked once at most. While it counts, it takes 13 bytes for each node of the store,
+/// and a byte for each pair, which remembers whether an edge of the pair is present.
+pub fn degrees<V: View, L: Ledger>(
+    alloc: Global,
+    view: &V,
+    steps: &mut Steps<L>,
+) -> Result<DegreeRows, Memory>
+    ensures rows { IfOk result (λ rows. map (degree_row_of (V.contents view.now)) rows ≡ map (degree_row (V.world view.now)) (nodes (V.world view.now))) }
+    ensures known { IfOk result (λ rows. All (λ d. d.node.0 < length (V.contents view.now).nodes) rows) }
+    ensures cost { (V.world view.now).model ≡ Instants → IsWithin steps.old steps.new (length (V.contents view.now).nodes * (V.searches view.now).nodes + length (V.contents view.now).edges * (V.searches view.now).edges) (length (V.contents view.now).accepted) }
+{
+    let ways = shown_ways(alloc, view, steps)?;
+    let linked = linked_nodes(alloc, ways.as_slice())?;
+    let named = sorted_nodes(alloc, view, linked.as_slice(), steps)?;
+    degrees_of(alloc, view, named.as_slice(), ways.as_slice())
 }

@@ -9,11 +9,17 @@ ghost use Rattle.graph_model.specs.declared.queries.Direction.TheVariants.{Both,
 ghost use Rattle.graph_store.specs.Contents.{Contents, base_of, name_at};
 ghost use Rattle.graph_store.specs.Indexed.{IsIndexed};
 ghost use Rattle.graph_store.specs.declared.pairs.Ends.{Ends};
-ghost use Rattle.walk_algorithms.specs.Links.{HasLinks, ShowsEdges, links_from, links_to, links_to_alone, names_in, names_out, shown_links};
+ghost use Rattle.view_trait.specs.Meaning.{IsShown};
+ghost use Rattle.walk_algorithms.specs.Links.{HasLinks, ShowsEdges, links_from, links_of, links_to, links_to_alone, names_in, names_out, shown_links};
 
 /// Where a world shows some of a store's edges, the pairs with an edge that is shown are its links.
 pub fn shown_pairs_are_links()
     ensures { (c : Contents) → IsIndexed c → (w : World) (shown : ℕ → Bool) → ShowsEdges c w shown → HasLinks w c.nodes (shown_links shown c) }
+{}
+
+/// What a view shows has the pairs with a present edge as its links.
+pub fn views_have_links()
+    ensures { (c : Contents) (w : World) → IsShown c w → HasLinks w c.nodes (links_of c w) }
 {}
 
 /// In the event model all pairs of a store are links of its base world.

@@ -1,18 +1,20 @@
-//! The present nodes of an event graph.
-ghost use Rattle.std.specs.Prelude.{◌≡◌, ◌<◌, [], ◌∷◌, ◌++◌, length, map, IfOk, OnOk};
-ghost use Rattle.std.specs.List.{filter, All};
-ghost use Rattle.graph_model.specs.declared.events.Model.TheVariants.{Event as Instants};
+//! The present nodes of a view.
+ghost use Rattle.std.specs.Prelude.{◌≡◌, ◌<◌, [], ◌∷◌, ◌++◌, ◌*◌, length, map, IfOk, OnOk};
+ghost use Rattle.std.specs.List.{filter, list_any, All};
+ghost use Rattle.graph_model.specs.Entity.{is_about};
 ghost use Rattle.graph_model.specs.Presence.{node_present, nodes};
-ghost use Rattle.graph_model.specs.World.{IsLawful};
-ghost use Rattle.graph_store.specs.Contents.{base_of, name_at};
-ghost use Rattle.graph_store.specs.Indexed.{IsIndexed};
+ghost use Rattle.graph_store.specs.Contents.{name_at};
+ghost use Rattle.view_trait.specs.Meaning.{IsWithin, node_at};
+ghost use Rattle.walk_algorithms.specs.Links.{is_end, links_of};
+ghost use Rattle.walk_algorithms.specs.Flags.{AreEnds};
 ghost use Rattle.walk_algorithms.specs.Degrees.{IsNamed};
-ghost use Rattle.walk_algorithms.specs.Counted.{AreWays, IsCounted};
 
-use crate::ways::Ways;
 use graph_model::Memory;
-use graph_store::{NodeId, Store};
+use graph_store::NodeId;
 use std::alloc::Global;
+use std::sync::ledger::Ledger;
+use time_column::Steps;
+use view_trait::View;
 
 /// A node with its name, which the store keeps.
 #[derive(Clone, Copy)]
@@ -21,75 +23,83 @@ pub struct Named<'s> {
     pub node: NodeId,
 }
 
-/// Whether a node with these ways has an event of its own, or is an end of a pair.
-fn is_present(store: &Store, n: NodeId, ways: Ways) -> bool
-    requires model { store.now.model ≡ Instants }
-    requires lawful { IsLawful (base_of store.now) }
-    requires indexed { IsIndexed store.now }
-    requires exists { n.0 < length store.now.nodes }
-    requires ways { AreWays store.now.pairs store.now.pairs n.0 ways }
-    ensures { result ≡ node_present (base_of store.now) (name_at store.now.nodes n.0) }
+/// Whether a node has an event of its own. Its span is asked once.
+fn has_event<V: View, L: Ledger>(view: &V, n: NodeId, steps: &mut Steps<L>) -> bool
+    requires { n.0 < length (V.contents view.now).nodes }
+    ensures event { result ≡ list_any (is_about (node_at (V.contents view.now) n.0)) (V.world view.now).events }
+    ensures cost { IsWithin steps.old steps.new (V.searches view.now).nodes (length (V.contents view.now).accepted) }
 {
-    ways.any() || store.node_history(n).len() > 0
+    let store = view.store();
+    let span = view.node_span(n, steps);
+    store.node_history(n).last_kind(span).is_some()
+}
+
+/// Whether a node is present: a link begins or ends there, which is known, or it has an event.
+fn is_present<V: View, L: Ledger>(view: &V, n: NodeId, linked: bool, steps: &mut Steps<L>) -> bool
+    requires exists { n.0 < length (V.contents view.now).nodes }
+    requires linked { linked ≡ is_end (links_of (V.contents view.now) (V.world view.now)) n.0 }
+    ensures present { result ≡ node_present (V.world view.now) (name_at (V.contents view.now).nodes n.0) }
+    ensures cost { IsWithin steps.old steps.new (V.searches view.now).nodes (length (V.contents view.now).accepted) }
+{
+    linked || has_event(view, n, steps)
 }
 
 /// Adds a node with its name, if it is present.
-fn push_present<'s>(
+fn push_present<'s, V: View, L: Ledger>(
     named: &mut Vec<Named<'s>>,
-    store: &'s Store,
+    view: &'s V,
     node: NodeId,
-    ways: Ways,
+    linked: bool,
+    steps: &mut Steps<L>,
 ) -> Result<(), Memory>
-    requires model { store.now.model ≡ Instants }
-    requires lawful { IsLawful (base_of store.now) }
-    requires indexed { IsIndexed store.now }
-    requires exists { node.0 < length store.now.nodes }
-    requires ways { AreWays store.now.pairs store.now.pairs node.0 ways }
-    ensures names { OnOk result (map (λ x. x.name.now) named.new.items ≡ map (λ x. x.name.now) named.old.items ++ filter (node_present (base_of store.now)) (name_at store.now.nodes node.0 ∷ [])) }
-    ensures numbers { OnOk result (All (IsNamed store.now) named.old.items → All (IsNamed store.now) named.new.items) }
+    requires exists { node.0 < length (V.contents view.now).nodes }
+    requires linked { linked ≡ is_end (links_of (V.contents view.now) (V.world view.now)) node.0 }
+    ensures names { OnOk result (map (λ x. x.name.now) named.new.items ≡ map (λ x. x.name.now) named.old.items ++ filter (node_present (V.world view.now)) (name_at (V.contents view.now).nodes node.0 ∷ [])) }
+    ensures numbers { OnOk result (All (IsNamed (V.contents view.now)) named.old.items → All (IsNamed (V.contents view.now)) named.new.items) }
+    ensures cost { IsWithin steps.old steps.new (V.searches view.now).nodes (length (V.contents view.now).accepted) }
 {
-    if is_present(store, node, ways) {
-        let name = store.node_name(node).as_str();
+    if is_present(view, node, linked, steps) {
+        let name = view.store().node_name(node).as_str();
         named.push(Named { name, node })?;
         return Ok(());
     }
     Ok(())
 }
 
-/// The present nodes, in the order of their numbers.
-fn listed_nodes<'s>(
+/// The present nodes, in the order of their numbers, where a flag says of each whether it is linked.
+fn listed_nodes<'s, V: View, L: Ledger>(
     alloc: Global,
-    store: &'s Store,
-    ways: &[Ways],
+    view: &'s V,
+    linked: &[bool],
+    steps: &mut Steps<L>,
 ) -> Result<Vec<Named<'s>>, Memory>
-    requires model { store.now.model ≡ Instants }
-    requires lawful { IsLawful (base_of store.now) }
-    requires indexed { IsIndexed store.now }
-    requires ways { IsCounted store.now.pairs store.now.pairs (length store.now.nodes) ways.now }
-    ensures names { IfOk result (λ named. map (λ x. x.name.now) named.items ≡ filter (node_present (base_of store.now)) store.now.nodes) }
-    ensures numbers { IfOk result (λ named. All (IsNamed store.now) named.items) }
+    requires linked { AreEnds (links_of (V.contents view.now) (V.world view.now)) (length (V.contents view.now).nodes) linked.now }
+    ensures names { IfOk result (λ named. map (λ x. x.name.now) named.items ≡ filter (node_present (V.world view.now)) (V.contents view.now).nodes) }
+    ensures numbers { IfOk result (λ named. All (IsNamed (V.contents view.now)) named.items) }
+    ensures cost { IsWithin steps.old steps.new (length (V.contents view.now).nodes * (V.searches view.now).nodes) (length (V.contents view.now).accepted) }
 {
     let mut named = Vec::new(alloc);
-    for number in 0..store.nodes() {
-        push_present(&mut named, store, NodeId(number), ways[number as usize])?;
+    for number in 0..view.store().nodes() {
+        let is_linked = linked[number as usize];
+        push_present(&mut named, view, NodeId(number), is_linked, steps)?;
     }
     Ok(named)
 }
 
-/// The present nodes, rising by the bytes of their names.
-pub fn sorted_nodes<'s>(
+/// The present nodes, rising by the bytes of their names, where a flag says of each node whether a
+/// link begins or ends there. The spans of the nodes without a link are asked once each.
+pub fn sorted_nodes<'s, V: View, L: Ledger>(
     alloc: Global,
-    store: &'s Store,
-    ways: &[Ways],
+    view: &'s V,
+    linked: &[bool],
+    steps: &mut Steps<L>,
 ) -> Result<Vec<Named<'s>>, Memory>
-    requires model { store.now.model ≡ Instants }
-    requires lawful { IsLawful (base_of store.now) }
-    requires indexed { IsIndexed store.now }
-    requires ways { IsCounted store.now.pairs store.now.pairs (length store.now.nodes) ways.now }
-    ensures names { IfOk result (λ named. map (λ x. x.name.now) named.items ≡ nodes (base_of store.now)) }
-    ensures numbers { IfOk result (λ named. All (IsNamed store.now) named.items) }
+    requires linked { AreEnds (links_of (V.contents view.now) (V.world view.now)) (length (V.contents view.now).nodes) linked.now }
+    ensures names { IfOk result (λ named. map (λ x. x.name.now) named.items ≡ nodes (V.world view.now)) }
+    ensures numbers { IfOk result (λ named. All (IsNamed (V.contents view.now)) named.items) }
+    ensures cost { IsWithin steps.old steps.new (length (V.contents view.now).nodes * (V.searches view.now).nodes) (length (V.contents view.now).accepted) }
 {
-    let mut named = listed_nodes(alloc, store, ways)?;
+    let mut named = listed_nodes(alloc, view, linked, steps)?;
     named.sort_unstable_by(|a, b| a.name.cmp(b.name));
     Ok(named)
 }

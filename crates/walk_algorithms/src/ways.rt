@@ -1,11 +1,15 @@
 //! How many links begin and end at each node.
-ghost use Rattle.std.specs.Prelude.{◌≡◌, ℕ, ◌^◌, ◌<◌, ◌-◌, ◌+◌, ◌||◌, nat_lt, length, take, slice_set, IfOk};
-ghost use Rattle.graph_store.specs.Indexed.{IsIndexed};
+ghost use Rattle.std.specs.Prelude.{◌≡◌, ℕ, ◌^◌, ◌<◌, ◌-◌, ◌+◌, length, map, take, slice_set, IfOk};
+ghost use Rattle.std.specs.List.{filter, list_any};
+ghost use Rattle.graph_store.specs.Ends.{same_ends};
+ghost use Rattle.walk_algorithms.specs.Links.{links_of, pair_shown};
+ghost use Rattle.walk_algorithms.specs.Flags.{AreShown, has_way};
 ghost use Rattle.walk_algorithms.specs.Counted.{ways_at, with_in, with_out, IsCounted};
 
 use graph_model::Memory;
-use graph_store::{NodeId, PairId, Store};
+use graph_store::{NodeId, PairId};
 use std::alloc::Global;
+use view_trait::View;
 
 /// How many links end at a node, how many begin there, and how many of those that end there have no
 /// link back.
@@ -19,7 +23,7 @@ pub struct Ways {
 impl Ways {
     /// Whether a link begins or ends at the node.
     pub fn any(self) -> bool
-        ensures { result ≡ (nat_lt 0 self.outs || nat_lt 0 self.ins) }
+        ensures { result ≡ has_way self }
     {
         self.outs > 0 || self.ins > 0
     }
@@ -49,33 +53,56 @@ fn count_in(ways: &mut [Ways], n: NodeId, back: bool)
     }
 }
 
-/// Counts a pair at its source and at its destination.
-fn count_pair(store: &Store, ways: &mut [Ways], pair: PairId)
-    requires exists { pair.0 < length store.now.pairs }
-    requires indexed { IsIndexed store.now }
-    requires before { IsCounted store.now.pairs (take pair.0 store.now.pairs) (length store.now.nodes) ways.old }
-    ensures { IsCounted store.now.pairs (take (pair.0 + 1) store.now.pairs) (length store.now.nodes) ways.new }
+/// Whether a link leads from one node to another, by the flags of the pairs.
+fn leads<V: View>(view: &V, shown: &[bool], src: NodeId, dst: NodeId) -> bool
+    requires shown { AreShown (V.contents view.now) (V.world view.now) shown.now }
+    ensures { result ≡ list_any (same_ends (record { src = src.0; dst = dst.0 })) (links_of (V.contents view.now) (V.world view.now)) }
 {
+    match view.store().pair_of(src, dst) {
+        Some(pair) => shown[pair.0 as usize],
+        None => false,
+    }
+}
+
+/// Counts a pair at its source and at its destination, if it is a link.
+fn count_pair<V: View>(view: &V, shown: &[bool], ways: &mut [Ways], pair: PairId)
+    requires exists { pair.0 < length (V.contents view.now).pairs }
+    requires shown { AreShown (V.contents view.now) (V.world view.now) shown.now }
+    requires before { IsCounted (links_of (V.contents view.now) (V.world view.now)) (filter (pair_shown (V.contents view.now) (V.world view.now)) (take pair.0 (V.contents view.now).pairs)) (length (V.contents view.now).nodes) ways.old }
+    ensures { IsCounted (links_of (V.contents view.now) (V.world view.now)) (filter (pair_shown (V.contents view.now) (V.world view.now)) (take (pair.0 + 1) (V.contents view.now).pairs)) (length (V.contents view.now).nodes) ways.new }
+{
+    if !shown[pair.0 as usize] {
+        return;
+    }
+    let store = view.store();
     let _few = store.pairs();
     let (src, dst) = store.pair_ends(pair);
-    let back = store.pair_of(dst, src).is_some();
+    let back = leads(view, shown, dst, src);
     count_out(ways, src);
     count_in(ways, dst, back);
 }
 
-/// The ways of all nodes, by their numbers.
-pub fn count_pairs(alloc: Global, store: &Store) -> Result<Vec<Ways>, Memory>
-    requires indexed { IsIndexed store.now }
-    ensures { IfOk result (λ ways. IsCounted store.now.pairs store.now.pairs (length store.now.nodes) ways.items) }
+/// The ways of all nodes, by their numbers, where a flag says of each pair whether it is a link.
+pub fn count_pairs<V: View>(alloc: Global, view: &V, shown: &[bool]) -> Result<Vec<Ways>, Memory>
+    requires shown { AreShown (V.contents view.now) (V.world view.now) shown.now }
+    ensures { IfOk result (λ ways. IsCounted (links_of (V.contents view.now) (V.world view.now)) (links_of (V.contents view.now) (V.world view.now)) (length (V.contents view.now).nodes) ways.items) }
 {
     let none = Ways {
         ins: 0,
         outs: 0,
         alone: 0,
     };
+    let store = view.store();
     let mut ways = vec![in alloc; none; store.nodes() as usize]?;
     for number in 0..store.pairs() {
-        count_pair(store, ways.as_mut_slice(), PairId(number));
+        count_pair(view, shown, ways.as_mut_slice(), PairId(number));
     }
     Ok(ways)
+}
+
+/// Whether a link begins or ends at each node, by the ways of the nodes.
+pub fn linked_nodes(alloc: Global, ways: &[Ways]) -> Result<Vec<bool>, Memory>
+    ensures { IfOk result (λ linked. linked.items ≡ map has_way ways.now) }
+{
+    Ok(ways.iter().map(|ways| ways.any()).collect(alloc)?)
 }

@@ -1,24 +1,26 @@
-use Rattle.std.proofs.Common.{◌∙◌, ◌<◌, ◌^◌, ap, arith, length, rules}
+use Rattle.std.proofs.Common.{◌∙◌, ◌≤◌, ap, arith, length, subst}
 use Rattle.graph_model.specs.Answer.{degree_row}
-use Rattle.graph_store.specs.Contents.{base_of}
+use Rattle.graph_store.specs.Contents.{Contents}
+use Rattle.walk_algorithms.specs.Links.{links_of}
 use Rattle.walk_algorithms.specs.Counted.{ways_at}
-use Rattle.walk_algorithms.proofs.Base.{pairs_are_links}
 use Rattle.walk_algorithms.proofs.Rows.{few_both, row_by_ways}
+use Rattle.walk_algorithms.proofs.Views.{view_links}
 use Rattle.walk_algorithms.proofs.degree_rows.degree_of.Goals as goal
 
 pub overflow_add-result : goal.overflow_add-result
-overflow_add-result c =
-    let s = c.args.store.now in
-    let r = c.requires in
+overflow_add-result g c =
+    let s = g.V.View.contents c.args.view.now in
+    let w = g.V.View.world c.args.view.now in
     let n = c.args.x.node.0 in
-    let both = few_both (base_of s) s.nodes s.pairs (pairs_are_links s r.model r.lawful r.indexed) n r.named.0 (ways_at c.args.ways.now n) (r.ways.counted n r.named.0) in
-    let few : length c.args.store.now.nodes < 2 ^ 32 = search rules in
+    let r = c.requires in
+    let both = few_both w s.nodes (links_of s w) (view_links s w (g.met.V.View.shown c.args.view.now)) n r.named.0 (ways_at c.args.ways.now n) (r.ways.counted n r.named.0) in
+    let few : length s.nodes ≤ 1048576 = subst (λ (v : Contents). length v.nodes ≤ 1048576) c.store.ensures (let len = c.nodes-few.ensures.len in let few = c.nodes-few.ensures.few in omega arith) in
     omega (arith, both, few)
 
 pub returns-clause-row : goal.returns-clause-row
-returns-clause-row c =
-    let s = c.args.store.now in
-    let r = c.requires in
+returns-clause-row g c =
+    let s = g.V.View.contents c.args.view.now in
+    let w = g.V.View.world c.args.view.now in
     let n = c.args.x.node.0 in
-    let row = row_by_ways (base_of s) s.nodes s.pairs (pairs_are_links s r.model r.lawful r.indexed) n r.named.0 (ways_at c.args.ways.now n) (r.ways.counted n r.named.0) in
-    row ∙ ap (degree_row (base_of s)) r.named.1
+    let r = c.requires in
+    row_by_ways w s.nodes (links_of s w) (view_links s w (g.met.V.View.shown c.args.view.now)) n r.named.0 (ways_at c.args.ways.now n) (r.ways.counted n r.named.0) ∙ ap (degree_row w) r.named.1

@@ -1,19 +1,15 @@
-use Rattle.std.proofs.Common.{◌∙◌, ap, nat_lt, sym}
-use Rattle.graph_store.specs.Contents.{base_of}
-use Rattle.graph_store.specs.Keys.{key_name}
-use Rattle.walk_algorithms.proofs.Base.{pairs_are_links}
-use Rattle.walk_algorithms.proofs.Rows.{present_by_updates, present_by_ways}
+use Rattle.std.proofs.Common.{◌∙◌}
+use Rattle.walk_algorithms.proofs.Views.{present_linked, present_own}
 use Rattle.walk_algorithms.proofs.present_nodes.is_present.Goals as goal
 
-pub returns-then-any : goal.returns-then-any
-returns-then-any c =
-    let s = c.args.store.now in
-    let r = c.requires in
-    c.if-any.true ∙ present_by_ways (base_of s) s.nodes s.pairs (pairs_are_links s r.model r.lawful r.indexed) c.args.n.0 r.exists c.args.ways r.ways (sym c.any.ensures ∙ c.if-any.true)
+pub returns-then-linked-clause-present : goal.returns-then-linked-clause-present
+returns-then-linked-clause-present g c =
+    let s = g.V.View.contents c.args.view.now in
+    let w = g.V.View.world c.args.view.now in
+    c.if-linked.true ∙ present_linked s w (g.met.V.View.shown c.args.view.now) c.args.n.0 c.requires.exists c.args.linked c.requires.linked c.if-linked.true
 
-pub returns-else-any : goal.returns-else-any
-returns-else-any c =
-    let s = c.args.store.now in
-    let r = c.requires in
-    ap (nat_lt 0) c.len.ensures.len
-    ∙ present_by_updates (base_of s) s.nodes s.pairs (pairs_are_links s r.model r.lawful r.indexed) c.args.n.0 r.exists c.args.ways r.ways (key_name s.node_keys) c.node_history.result.now.updates c.node_history.ensures.told (sym c.any.ensures ∙ c.if-any.false)
+pub returns-else-linked-clause-present : goal.returns-else-linked-clause-present
+returns-else-linked-clause-present g c =
+    let s = g.V.View.contents c.args.view.now in
+    let w = g.V.View.world c.args.view.now in
+    present_own s w (g.met.V.View.shown c.args.view.now) c.args.n.0 c.requires.exists c.args.linked c.requires.linked c.has_event.result c.has_event.ensures.event c.if-linked.false
