@@ -11,6 +11,7 @@ use Rattle.world_laws.proofs.Counts.{length_filter_le}
 use Rattle.graph_store.specs.declared.pairs.Ends.{Ends}
 use Rattle.graph_store.specs.Ends.{ends_at, same_ends}
 use Rattle.graph_store.specs.Contents.{Contents}
+use Rattle.graph_store.specs.Indexed.{IsIndexed}
 use Rattle.graph_store.proofs.LinkLaws.{same_ends-equal}
 use Rattle.graph_store.proofs.Readers.{none_found, one_found}
 use Rattle.walk_algorithms.specs.declared.ways.Ways.{Ways}
@@ -128,6 +129,15 @@ led_some c w flags h ends i e =
     always : (t : Bool) → (t && true) ≡ t
     always true = refl
     always false = refl
+
+-- the ends of a pair that a store gives are numbers of nodes
+pub ends_known : (v c : Contents) → v ≡ c → IsIndexed c → (p src dst : ℕ) → p < length c.pairs → src ≡ (ends_at v.pairs p).src → dst ≡ (ends_at v.pairs p).dst
+    → (src ≡ (ends_at c.pairs p).src) × (dst ≡ (ends_at c.pairs p).dst) × (src < length c.nodes) × (dst < length c.nodes)
+ends_known v c same indexed p src dst below is_src is_dst =
+    let within = indexed.pairs_within p below in
+    let src_too : src ≡ (ends_at c.pairs p).src = is_src ∙ ap (λ (x : Contents). (ends_at x.pairs p).src) same in
+    let dst_too : dst ≡ (ends_at c.pairs p).dst = is_dst ∙ ap (λ (x : Contents). (ends_at x.pairs p).dst) same in
+    (src_too, dst_too, subst (λ k. k < length c.nodes) (sym src_too) within.0, subst (λ k. k < length c.nodes) (sym dst_too) within.1)
 
 module _ (c : Contents) (w : World) (i : ℕ) (ways : List Ways) (below : i < length c.pairs) (h : IsCounted (links_of c w) (filter (pair_shown c w) (take i c.pairs)) (length c.nodes) ways) where
   -- a pair that is no link leaves the count as it is
