@@ -64,7 +64,7 @@ last_place p xs y none e =
     let found : position p (xs ++ y ∷ []) ≡ cond (nat_lt (length xs) (length xs + 1)) (Some (length xs)) None = λ i. cond (nat_lt (at i) (len i)) (Some (at i)) None in
     found ∙ ap (λ t. cond t (Some (length xs)) None) (lt-ltb (length xs) (length xs + 1) (omega arith))
 
-agree : (a b : Bool) → (a ≡ true → b ≡ true) → (b ≡ true → a ≡ true) → a ≡ b
+pub agree : (a b : Bool) → (a ≡ true → b ≡ true) → (b ≡ true → a ≡ true) → a ≡ b
 agree true true f g = refl
 agree true false f g = sym (f refl)
 agree false true f g = g refl
@@ -85,7 +85,7 @@ same_numbers a b src dst layer = let x = eq-eqb a.src b.src src in let y = eq-eq
 pub same_parts-own : (a : EdgeParts) → same_parts a a ≡ true
 same_parts-own a = same_numbers a a refl refl refl
 
-same_parts-exact : (a b : EdgeParts) → same_parts a b ≡ true → a ≡ b
+pub same_parts-exact : (a b : EdgeParts) → same_parts a b ≡ true → a ≡ b
 same_parts-exact a b h =
     let first = and_parts (a.src == b.src) ((a.dst == b.dst) && (a.layer == b.layer)) h in
     let second = and_parts (a.dst == b.dst) (a.layer == b.layer) first.1 in

@@ -14,6 +14,7 @@ pub mod JudgeLaws
 mod TakeNode
 pub mod EdgeNames
 mod EdgeNumbers
+mod InLayer
 mod LawfulLaws
 mod TakeEdge
 mod ApplyLaws

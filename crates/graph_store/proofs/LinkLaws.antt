@@ -1,17 +1,20 @@
 -- Edges that grow.
-use Rattle.std.proofs.Common.{◌≡◌, ℕ, ◌+◌, ◌-◌, ◌<◌, ◌≤◌, ◌^◌, List, [], ◌∷◌, ◌++◌, Bool, true, false, cond, ◌||◌, length, map, refl, sym, ap, ◌∙◌, arith, ⊎_elim, subst, append-nil}
+use Rattle.std.proofs.Common.{rules, ◌≡◌, ℕ, ◌+◌, ◌-◌, ◌<◌, ◌≤◌, ◌^◌, List, [], ◌∷◌, ◌++◌, Bool, true, false, cond, ◌||◌, length, map, refl, sym, ap, ◌∙◌, arith, ⊎_elim, subst, append-nil}
 use Rattle.std.specs.Prelude.{nat_eq}
 use Rattle.std.specs.List.{list_any, IsDistinct}
 use Rattle.std.proofs.lemmas.List.{length_push, length-set}
 use Rattle.std.proofs.lemmas.List.Folds.{list_any-append}
 use Rattle.std.proofs.Math.ListN.{get_or-append, get_or-eq_default}
 use Rattle.std.proofs.Math.Seq.{get_or-append_seam}
+use Rattle.std.specs.Cmp.{IsEquivalence}
+use Rattle.std.specs.Cmp.Rules.{comparing}
+use Rattle.std.proofs.lemmas.Map.Keys.{IsDistinct-push}
 use Rattle.std.proofs.lemmas.Bool.{cases_eq, cases_lt, eq-eqb, eqb-true, and_parts, and_from, false_from_ne_true}
 use Rattle.indexmap.specs.IndexSet.{insert_key}
 use Rattle.graph_store.specs.declared.pairs.Ends.{Ends}
 use Rattle.graph_store.specs.declared.edges.EdgeParts.{EdgeParts}
 use Rattle.graph_store.specs.Ends.{same_ends, ends_at}
-use Rattle.graph_store.specs.Parts.{ends_of, parts_at}
+use Rattle.graph_store.specs.Parts.{same_parts, ends_of, parts_at}
 use Rattle.graph_store.specs.Paired.{Paired}
 use Rattle.graph_store.specs.Linked.{AreLinked, edges_between}
 use Rattle.link_chain.specs.Chains.{items_at, link_count, put_last}
@@ -28,6 +31,9 @@ same_ends-equal a b e =
     let s = eqb-true a.src b.src h.0 in
     let d = eqb-true a.dst b.dst h.1 in
     λ k. record { src = s k; dst = d k }
+
+parts_equiv : IsEquivalence same_parts
+parts_equiv = Prim.search (comparing, rules)
 
 -- edges, pairs and chains, where the last edge's pair may be new and has not its edge yet
 record AreReady (edges : List EdgeParts) (pairs : List Ends) (ends : Ends) (chains : List (List (ℕ × ℕ))) : Type 0 where
@@ -76,6 +82,7 @@ ready edges paired chains ends h false e =
 
 pub AreLinked-push : (edges : List EdgeParts) (paired paired' : Paired) (chains chains1 : List (List (ℕ × ℕ))) (parts : EdgeParts) (p : ℕ)
     → AreLinked edges paired chains
+    → list_any (same_parts parts) edges ≡ false
     → parts.src < paired.nodes → parts.dst < paired.nodes → length edges < 2 ^ 32 - 1
     → paired'.nodes ≡ paired.nodes
     → paired'.pairs ≡ insert_key same_ends paired.pairs (ends_of parts)
@@ -83,7 +90,7 @@ pub AreLinked-push : (edges : List EdgeParts) (paired paired' : Paired) (chains 
     → p < length paired'.pairs → ends_at paired'.pairs p ≡ ends_of parts
     → IsDistinct same_ends paired'.pairs
     → AreLinked (edges ++ parts ∷ []) paired' (put_last p (length edges) chains1)
-AreLinked-push edges paired paired' chains chains1 parts p h src dst few nodes pairs grown lt here once =
+AreLinked-push edges paired paired' chains chains1 parts p h new src dst few nodes pairs grown lt here once =
     let ends = ends_of parts in
     let r0 : AreReady edges (insert_key same_ends paired.pairs ends) ends (cond (list_any (same_ends ends) paired.pairs) chains (chains ++ [] ∷ [])) = ready edges paired chains ends h (list_any (same_ends ends) paired.pairs) refl in
     let r : AreReady edges paired'.pairs ends chains1 = subst (λ ps. AreReady edges ps ends chains1) (sym pairs) (subst (λ cs. AreReady edges (insert_key same_ends paired.pairs ends) ends cs) (sym grown) r0) in
@@ -91,6 +98,7 @@ AreLinked-push edges paired paired' chains chains1 parts p h src dst few nodes p
     let p_head : p < length chains1 = omega (arith, r.heads) in
     record {
       few = omega (arith, more);
+      once = IsDistinct-push parts_equiv edges parts h.once new;
       few_pairs = omega (arith, more, r.few_pairs);
       heads = length-set chains1 p _ ∙ r.heads;
       links = link_count-put_last p (length edges) chains1 p_head ∙ (ap (λ n. n + 1) r.links ∙ sym more);

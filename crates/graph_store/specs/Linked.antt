@@ -1,11 +1,11 @@
 -- Edges and pairs of numbered nodes, and the lists that they stand in.
 use Rattle.std.specs.Prelude.{ℕ, List, ◌≡◌, ◌<◌, ◌≤◌, ◌^◌, length}
-use Rattle.std.specs.List.{list_any}
+use Rattle.std.specs.List.{IsDistinct, list_any}
 use Rattle.graph_store.specs.declared.pairs.Ends.{Ends}
 use Rattle.graph_store.specs.declared.edges.EdgeParts.{EdgeParts}
 use Rattle.graph_store.specs.Places.{places}
 use Rattle.graph_store.specs.Ends.{same_ends, ends_at}
-use Rattle.graph_store.specs.Parts.{ends_of, parts_at}
+use Rattle.graph_store.specs.Parts.{same_parts, ends_of, parts_at}
 use Rattle.graph_store.specs.Paired.{Paired}
 use Rattle.link_chain.specs.Chains.{items_at, link_count}
 
@@ -21,9 +21,10 @@ pub record Linked : Type 0 where
 abbrev pub edges_between : List EdgeParts → Ends → List ℕ
 edges_between edges ends = places (λ (e : EdgeParts). same_ends ends (ends_of e)) edges
 
--- the ends of the edges are the pairs, and one chain for each pair has its edges
+-- the edges are distinct, their ends are the pairs, and one chain for each pair has its edges
 pub record AreLinked (edges : List EdgeParts) (paired : Paired) (chains : List (List (ℕ × ℕ))) : Type 0 where
   pub few : length edges < 2 ^ 32
+  pub once : IsDistinct same_parts edges
   pub few_pairs : length paired.pairs ≤ length edges
   pub heads : length chains ≡ length paired.pairs
   pub links : link_count chains ≡ length edges

@@ -14,3 +14,7 @@ ends_of e = record { src = e.src; dst = e.dst }
 -- the parts of an edge
 abbrev pub parts_at : List EdgeParts → ℕ → EdgeParts
 parts_at edges e = slice_index_or edges e (record { src = 0; dst = 0; layer = 0 })
+
+-- whether the edge of a number is in a layer
+abbrev pub is_in : List EdgeParts → ℕ → ℕ → Bool
+is_in edges layer e = layer == (parts_at edges e).layer

@@ -1,21 +1,21 @@
 //! Edges between nodes, numbered, and linked by their pairs.
 ghost use Rattle.std.specs.Prelude.{◌≡◌, ℕ, ◌+◌, ◌-◌, ◌^◌, ◌<◌, ◌≤◌, List, [], ◌∷◌, ◌++◌, Some, is_some, false, if◌then◌else◌, position, length, slice_get, OnOk};
-ghost use Rattle.std.specs.List.{IsDistinct, list_any};
+ghost use Rattle.std.specs.List.{AllByRecursion, IsDistinct, find, list_any};
 ghost use Rattle.indexmap.specs.IndexSet.{insert_key};
 ghost use Rattle.link_chain.specs.Chains.{link_count, items_at};
 ghost use Rattle.graph_store.specs.Ends.{same_ends, ends_at};
+ghost use Rattle.graph_store.specs.Parts.{is_in};
 ghost use Rattle.graph_store.specs.Paired.{pairs_from, pairs_to};
 
 use crate::pairs::{Ends, PairTable};
 use crate::walks::LinkWalk;
 use graph_model::Memory;
-use indexmap::IndexSet;
 use link_chain::Chains;
 use std::alloc::Global;
 use std::marker::Model;
 
 /// An edge, by the numbers of its source, its destination and its layer.
-#[derive(Clone, Copy, Eq, Hash)]
+#[derive(Clone, Copy, Eq)]
 pub struct EdgeParts {
     pub src: u32,
     pub dst: u32,
@@ -51,30 +51,30 @@ impl EdgeParts {
 }
 
 /// Distinct edges between numbered nodes, and their pairs. An edge stands in the chain of its pair,
-/// so a walk over the edges of a pair takes no memory.
+/// so a walk over the edges of a pair takes no memory, and an edge is found along the chain of its
+/// pair, which has one for each layer at the most.
 #[derive(Drop)]
 pub struct EdgeTable {
-    parts: IndexSet<EdgeParts>,
+    parts: Vec<EdgeParts>,
     pairs: PairTable,
     of_pair: Chains,
 }
 
 impl Model for EdgeTable {
-    ghost use Rattle.std.specs.Prelude.{min};
-    ghost use Rattle.indexmap.specs.IndexSet.{spare};
+    ghost use Rattle.std.specs.Prelude.{min, ◌-◌, vec_len, vec_capacity};
     ghost use Rattle.graph_store.specs.Linked.{Linked, AreLinked};
 
     ghost Value = { Linked };
 
     ghost view = { λ t. record {
       nodes = t.pairs.nodes;
-      edges = t.parts.keys;
+      edges = t.parts.items;
       pairs = t.pairs.pairs;
       spare_nodes = t.pairs.spare_nodes;
-      spare_edges = min (min (spare t.parts) t.pairs.spare_pairs) (min t.of_pair.spare_heads t.of_pair.spare_links);
+      spare_edges = min (min (vec_capacity t.parts - vec_len t.parts) t.pairs.spare_pairs) (min t.of_pair.spare_heads t.of_pair.spare_links);
     } };
 
-    ghost invariant = { λ t. AreLinked t.parts.keys t.pairs t.of_pair.lists };
+    ghost invariant = { λ t. AreLinked t.parts.items t.pairs t.of_pair.lists };
 }
 
 /// The number of a pair, which is new or known.
@@ -104,6 +104,19 @@ fn number_of_pair(pairs: &mut PairTable, of_pair: &mut Chains, ends: Ends) -> u3
     pair
 }
 
+/// The first edge of a walk that is in a layer.
+fn first_in_layer(parts: &[EdgeParts], mut edges: LinkWalk<'_>, layer: u8) -> Option<u32>
+    requires { AllByRecursion (λ e. e < length parts.now) edges }
+    ensures { result ≡ find (is_in parts.now layer) edges.entry }
+{
+    while let Some(edge) = edges.step() {
+        if parts[edge as usize].layer == layer {
+            return Some(edge);
+        }
+    }
+    None
+}
+
 impl EdgeTable {
     ghost use Rattle.graph_store.specs.Parts.{same_parts, ends_of, parts_at};
     ghost use Rattle.graph_store.specs.Linked.{edges_between};
@@ -115,7 +128,7 @@ impl EdgeTable {
         ensures pairs { result.pairs ≡ [] }
     {
         EdgeTable {
-            parts: IndexSet::new(alloc),
+            parts: Vec::new(alloc),
             pairs: PairTable::new(alloc),
             of_pair: Chains::new(alloc),
         }
@@ -144,10 +157,8 @@ impl EdgeTable {
         ensures place { result ≡ position (same_parts parts) self.now.edges }
         ensures known { is_some result ≡ list_any (same_parts parts) self.now.edges }
     {
-        match self.parts.get_index_of(&parts) {
-            Some(place) => Some(place as u32),
-            None => None,
-        }
+        let pair = self.pairs.find(parts.ends())?;
+        first_in_layer(self.parts.as_slice(), self.edges_of(pair), parts.layer)
     }
 
     /// The number of a pair.
@@ -215,7 +226,7 @@ impl EdgeTable {
     {
         let edge = self.parts.len() as u32;
         let pair = number_of_pair(&mut self.pairs, &mut self.of_pair, parts.ends());
-        let _ = self.parts.insert(parts);
+        self.parts.push_reserved(parts);
         let _ = self.of_pair.append(pair, edge);
         edge
     }
