@@ -15,6 +15,7 @@ mod TakeNode
 pub mod EdgeNames
 mod EdgeNumbers
 mod InLayer
+mod RoomLaws
 mod LawfulLaws
 mod TakeEdge
 mod ApplyLaws

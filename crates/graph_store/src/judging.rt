@@ -1,8 +1,9 @@
 //! Why an event is refused.
-ghost use Rattle.std.specs.Prelude.{◌≡◌, ℕ, ◌+◌, ◌-◌, ◌^◌, ◌<◌, option_map, length};
+ghost use Rattle.std.specs.Prelude.{◌≡◌, ℕ, ◌+◌, ◌-◌, ◌^◌, ◌<◌, ◌≤◌, option_map, length, IsTrue};
 ghost use Rattle.std.specs.List.{find};
 ghost use Rattle.indexmap.specs.IndexSet.{insert_key};
 ghost use Rattle.graph_model.specs.Names.{same_name};
+ghost use Rattle.graph_model.specs.Entity.{props_of};
 ghost use Rattle.graph_model.specs.World.{allows};
 ghost use Rattle.graph_model.specs.Accepting.{all_counted};
 ghost use Rattle.graph_store.specs.Judged.{counted, is_above};
@@ -76,6 +77,34 @@ pub fn first_above(totals: Totals) -> Option<Count>
         return Some(Count::Types);
     }
     None
+}
+
+/// Whether no limit is passed with an event, two nodes, a layer, and so many keys of nodes and of
+/// edges more.
+pub fn leaves_room(totals: Totals, keys: usize) -> bool
+    requires node_keys { totals.node_keys ≤ 256 }
+    requires edge_keys { totals.edge_keys ≤ 256 }
+    ensures events { IsTrue result → totals.events < 4194304 }
+    ensures nodes { IsTrue result → totals.nodes + 2 ≤ 1048576 }
+    ensures layers { IsTrue result → totals.layers < 64 }
+    ensures node_keys { IsTrue result → totals.node_keys + keys ≤ 256 }
+    ensures edge_keys { IsTrue result → totals.edge_keys + keys ≤ 256 }
+{
+    totals.events < 4194304
+        && totals.nodes < 1048575
+        && totals.layers < 64
+        && keys <= 256 - totals.node_keys
+        && keys <= 256 - totals.edge_keys
+}
+
+/// How many keys an event sets.
+pub fn key_count(event: &Event) -> usize
+    ensures { result ≡ length (props_of event.now) }
+{
+    match &event.what {
+        What::Node(_, props) | What::Add(_, props) => props.len(),
+        What::Delete(_) => 0,
+    }
 }
 
 /// Whether a model has an event's kind.

@@ -4,7 +4,10 @@ ghost use Rattle.std.specs.List.{list_any, find};
 ghost use Rattle.graph_model.specs.Names.{same_name};
 
 use crate::edges::EdgeTable;
-use crate::judging::{StoreRefusal, Totals, count_with, count_with_both, first_above, is_allowed};
+use crate::judging::{
+    StoreRefusal, Totals, count_with, count_with_both, first_above, is_allowed, key_count,
+    leaves_room,
+};
 use crate::keys::KeyTable;
 use crate::naming::{number_name, number_node, number_of_edge};
 use crate::pairs::Ends;
@@ -54,7 +57,7 @@ impl Store {
     ghost use Rattle.graph_model.specs.Entity.{same_entity, is_about};
     ghost use Rattle.graph_model.specs.Interval.{is_inside};
     ghost use Rattle.graph_model.specs.World.{named, type_of, put_type, events_of, allows, IsLawful};
-    ghost use Rattle.graph_model.specs.Accepting.{Counted, all_counted, layer_names, key_names, type_names, node_events, edge_events, count_of, limit_of, mistyped, event_refusal, is_other_type, type_refusal};
+    ghost use Rattle.graph_model.specs.Accepting.{Counted, all_counted, layer_names, key_names, type_names, node_events, edge_events, count_of, limit_of, mistyped, passed_limit, event_refusal, is_other_type, type_refusal};
     ghost use Rattle.graph_model.specs.declared.events.Entity.TheVariants.{Node as NodeNamed, Edge as EdgeNamed};
     ghost use Rattle.time_history.specs.Told.{events_told, Fits};
     ghost use Rattle.time_history.specs.Asked.{AreNamed};
@@ -446,6 +449,21 @@ impl Store {
         }
     }
 
+    /// Whether there is room within the limits whatever the event names. No name is looked up for it.
+    fn has_room(&self, event: &Event) -> bool
+        ensures { IsTrue result → passed_limit (self.now.accepted ++ event.now ∷ []) self.now.types ≡ None }
+    {
+        let totals = Totals {
+            events: self.events,
+            nodes: self.nodes.len(),
+            layers: self.layers.len(),
+            node_keys: self.node_keys.len() as usize,
+            edge_keys: self.edge_keys.len() as usize,
+            types: self.kinds.len(),
+        };
+        leaves_room(totals, key_count(event))
+    }
+
     /// Why an event is refused, if it is.
     fn refusal_of(&self, event: &Event) -> Option<StoreRefusal>
         ensures { MatchOption result (event_refusal self.now.model self.now.accepted self.now.types event.now ≡ None) (IsRefusal self.now.model self.now.accepted self.now.types event.now) }
@@ -455,6 +473,9 @@ impl Store {
         }
         if let Some((kept, given)) = self.clash_with(event) {
             return Some(StoreRefusal::KeyType { kept, given });
+        }
+        if self.has_room(event) {
+            return None;
         }
         match first_above(self.totals_with(event)) {
             Some(count) => Some(StoreRefusal::Limit(count)),
