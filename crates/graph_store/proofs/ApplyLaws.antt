@@ -1,7 +1,7 @@
 -- A store that judges an event and then takes it.
-use Rattle.std.proofs.Common.{◌≡◌, ℕ, ◌+◌, ◌<◌, ◌≤◌, List, [], ◌∷◌, ◌++◌, Bool, true, false, not, cond, Option, Some, None, length, map, refl, sym, ap, arith, subst}
+use Rattle.std.proofs.Common.{◌≡◌, ℕ, ◌+◌, ◌≤◌, List, [], ◌∷◌, ◌++◌, Bool, true, false, not, cond, Option, Some, None, length, map, refl, sym, ap, arith, subst}
 use Rattle.std.specs.Prelude.{is_some, MatchOption, IfNone}
-use Rattle.std.specs.List.{find, IsDistinct}
+use Rattle.std.specs.List.{IsDistinct}
 use Rattle.std.proofs.lemmas.Bool.{ltb-false}
 use Rattle.indexmap.specs.IndexSet.{insert_key}
 use Rattle.graph_model.specs.declared.properties.Value.{Value}

@@ -1,5 +1,5 @@
 -- What the history of an entity says to those who read it.
-use Rattle.std.proofs.Common.{◌≡◌, ℕ, ◌<◌, ◌≤ℤ◌, ◌<ℤ◌, List, [], ◌∷◌, Bool, true, false, not, length, map, refl, sym, ap, ◌∙◌, arith, subst, inl}
+use Rattle.std.proofs.Common.{◌≡◌, ℕ, ◌<◌, ◌≤ℤ◌, ◌<ℤ◌, List, [], ◌∷◌, true, false, length, map, refl, sym, arith, subst, inl}
 use Rattle.std.specs.List.{All, AllByRecursion, IsDistinct}
 use Rattle.std.proofs.lemmas.Int.{ints}
 use Rattle.std.proofs.lemmas.List.{get_or-map, length-map}
@@ -30,7 +30,7 @@ use Rattle.time_history.proofs.Whole.{whole_taken}
 use Rattle.graph_store.specs.declared.edges.EdgeParts.{EdgeParts}
 use Rattle.graph_store.specs.Parts.{parts_at}
 use Rattle.graph_store.specs.Keys.{key_name}
-use Rattle.graph_store.specs.Told.{entity_at, updates_of_number, IsKept, AreTold}
+use Rattle.graph_store.specs.Told.{entity_at, updates_of_number, IsKept}
 use Rattle.graph_store.specs.Histories.{whole_of}
 use Rattle.graph_store.specs.Lawful.{AreJudged}
 use Rattle.graph_store.specs.Contents.{Contents, AreContents, name_at, edge_name, node_entities, edge_entities}

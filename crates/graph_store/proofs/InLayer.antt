@@ -1,12 +1,11 @@
 -- An edge among those of its pair, found by its layer.
-use Rattle.std.proofs.Common.{◌≡◌, ℕ, suc, ◌+◌, ◌<◌, List, [], ◌∷◌, Bool, true, false, not, cond, Option, Some, None, length, refl, sym, ap, ◌∙◌, arith, subst}
+use Rattle.std.proofs.Common.{◌≡◌, ℕ, suc, ◌+◌, ◌<◌, List, [], ◌∷◌, Bool, true, false, not, cond, Some, None, length, refl, sym, ap, ◌∙◌, arith, subst}
 use Rattle.std.specs.Prelude.{position, nat_lt, nat_eq, ◌==◌, ◌&&◌}
 use Rattle.std.specs.List.{AllByRecursion, find, list_any, position_or_len}
 use Rattle.std.proofs.Math.Bool.{and_assoc}
 use Rattle.std.proofs.lemmas.Bool.{lt-ltb, ltb-true, or_parts, or_from}
-use Rattle.graph_store.specs.declared.pairs.Ends.{Ends}
 use Rattle.graph_store.specs.declared.edges.EdgeParts.{EdgeParts}
-use Rattle.graph_store.specs.Places.{places_from, places}
+use Rattle.graph_store.specs.Places.{places_from}
 use Rattle.graph_store.specs.Ends.{same_ends}
 use Rattle.graph_store.specs.Parts.{same_parts, ends_of, parts_at, is_in}
 use Rattle.graph_store.specs.Linked.{edges_between}

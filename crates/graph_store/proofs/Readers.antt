@@ -1,5 +1,5 @@
 -- What the readers of a store rest on.
-use Rattle.std.proofs.Common.{◌≡◌, ℕ, ◌<◌, ◌≤◌, List, [], ◌∷◌, Bool, true, false, not, cond, Option, Some, None, length, get_or, refl, sym, ap, ◌∙◌, arith, subst}
+use Rattle.std.proofs.Common.{◌≡◌, ℕ, ◌<◌, ◌≤◌, List, [], ◌∷◌, Bool, true, false, not, cond, Option, Some, None, length, get_or, refl, sym, ap, ◌∙◌, arith}
 use Rattle.std.specs.Prelude.{is_some, position, nat_lt}
 use Rattle.std.specs.List.{list_any, position_or_len}
 use Rattle.std.proofs.lemmas.List.{get_or-map, length-map}
@@ -8,17 +8,12 @@ use Rattle.std.proofs.lemmas.List.Sums.{prefix_len_passes}
 use Rattle.std.proofs.lemmas.List.Quantifiers.{position-Some}
 use Rattle.std.proofs.lemmas.Bool.{ltb-false, not-true, true≢false}
 use Rattle.graph_model.specs.declared.events.Entity.TheVariants.{Node, Edge}
-use Rattle.graph_model.specs.Entity.{about}
-use Rattle.graph_model.specs.World.{arrange}
 use Rattle.time_history.specs.History.{Known}
 use Rattle.time_history.specs.declared.updates.Update.{Update}
-use Rattle.time_history.specs.Told.{events_told}
 use Rattle.graph_store.specs.declared.edges.EdgeParts.{EdgeParts}
-use Rattle.graph_store.specs.Parts.{parts_at}
-use Rattle.graph_store.specs.Keys.{key_name}
 use Rattle.graph_store.specs.Histories.{updates_in}
 use Rattle.graph_store.specs.Told.{updates_of_number}
-use Rattle.graph_store.specs.Contents.{Contents, AreContents, name_at, edge_name}
+use Rattle.graph_store.specs.Contents.{Contents, AreContents, edge_name}
 use Rattle.graph_store.proofs.Listed.{list_any-place}
 
 -- where no place is found, no item passes

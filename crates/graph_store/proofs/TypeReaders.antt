@@ -1,5 +1,5 @@
 -- The types of a store's nodes, by its numbers.
-use Rattle.std.proofs.Common.{◌≡◌, ℕ, ◌<◌, ◌≤◌, List, [], ◌∷◌, ◌++◌, Bool, true, false, not, cond, ◌||◌, Option, Some, None, length, refl, sym, ap, ◌∙◌, arith, ⊎_elim}
+use Rattle.std.proofs.Common.{◌≡◌, ℕ, ◌<◌, ◌≤◌, List, [], ◌∷◌, ◌++◌, Bool, true, false, not, cond, ◌||◌, Option, Some, None, length, refl, sym, ap, ◌∙◌, ⊎_elim}
 use Rattle.std.specs.Prelude.{is_some, option_map, position, IfSome}
 use Rattle.std.specs.Option.{option_map_or}
 use Rattle.std.specs.List.{list_any}
@@ -9,18 +9,16 @@ use Rattle.std.proofs.lemmas.Bool.{cases_lt, or_right, true≢false}
 use Rattle.std.proofs.lemmas.Option.{none-some}
 use Rattle.indexmap.specs.IndexSet.{insert_key}
 use Rattle.graph_model.specs.declared.events.Entity.TheVariants.{Node}
-use Rattle.graph_model.specs.declared.events.Event.{Event}
 use Rattle.graph_model.specs.Names.{same_name}
 use Rattle.graph_model.specs.Refusal.{Retype, Limit}
-use Rattle.graph_model.specs.World.{named, type_of, put_type}
-use Rattle.graph_model.specs.Accepting.{Counted, is_other_type, passed_limit, type_refusal}
+use Rattle.graph_model.specs.World.{named, type_of}
+use Rattle.graph_model.specs.Accepting.{passed_limit, type_refusal}
 use Rattle.world_laws.proofs.Order.{same_name-exact}
 use Rattle.graph_store.specs.declared.store.Store.TheInside.{Inside}
 use Rattle.graph_store.specs.Kept.{contents, IsStored}
 use Rattle.graph_store.specs.Typed.{kind_in}
 use Rattle.graph_store.specs.WithType.{with_type}
-use Rattle.graph_store.specs.Contents.{Contents, name_at, node_entities}
-use Rattle.graph_store.specs.Told.{entity_at}
+use Rattle.graph_store.specs.Contents.{name_at}
 use Rattle.graph_store.proofs.AcceptNode.{name_at-insert}
 use Rattle.graph_store.proofs.Readers.{none_found}
 use Rattle.graph_store.proofs.TypeLaws.{Rises-types_named, type_of-number, kind_in-within, kind_in-past, put_type-known, type_name-there}

@@ -1,4 +1,4 @@
-use Rattle.std.proofs.Common.{◌≡◌, ◌≤◌, length, sym, ap, ◌∙◌, subst, arith}
+use Rattle.std.proofs.Common.{◌≤◌, length, sym, subst, arith}
 use Rattle.graph_model.specs.World.{IsLawful}
 use Rattle.graph_model.specs.Accepting.{Counted, count_of, limit_of}
 use Rattle.world_laws.proofs.Times.{le_test}

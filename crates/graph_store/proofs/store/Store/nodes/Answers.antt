@@ -1,7 +1,4 @@
-use Rattle.std.proofs.Common.{◌≡◌, ◌<◌, ℕ, length, subst}
-use Rattle.graph_store.specs.Parts.{parts_at}
-use Rattle.graph_store.specs.Contents.{Contents}
-use Rattle.graph_store.specs.Kept.{contents}
+use Rattle.std.proofs.Common.{length, subst}
 use Rattle.graph_store.specs.Indexed.{IsIndexed}
 use Rattle.graph_store.proofs.EdgeNumbers.{ends_within}
 use Rattle.graph_store.proofs.store.Store.nodes.Goals as goal

@@ -1,5 +1,5 @@
 use Rattle.std.proofs.Common.{◌≡◌, ◌∙◌, rules, true, None, is_some, sym, ap, subst}
-use Rattle.graph_model.specs.World.{type_of, put_type}
+use Rattle.graph_model.specs.World.{type_of}
 use Rattle.graph_model.specs.Accepting.{type_refusal}
 use Rattle.graph_store.specs.Contents.{Contents, name_at}
 use Rattle.graph_store.specs.WithType.{with_type}

@@ -1,4 +1,4 @@
-use Rattle.std.proofs.Common.{◌≡◌, ◌∙◌, ◌≤◌, [], ◌∷◌, ◌++◌, Some, sym, ap, subst, arith}
+use Rattle.std.proofs.Common.{◌≡◌, ◌∙◌, [], ◌∷◌, ◌++◌, Some, sym, subst, arith}
 use Rattle.graph_model.specs.World.{type_of}
 use Rattle.graph_model.specs.Accepting.{Counted, count_of}
 use Rattle.graph_store.specs.Judged.{total_of}

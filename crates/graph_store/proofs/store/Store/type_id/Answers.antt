@@ -1,4 +1,4 @@
-use Rattle.std.proofs.Common.{◌≡◌, ◌∙◌, [], ap, sym, subst}
+use Rattle.std.proofs.Common.{◌≡◌, ◌∙◌, [], ap, subst}
 use Rattle.std.specs.Prelude.{is_some}
 use Rattle.std.specs.List.{list_any}
 use Rattle.graph_model.specs.Names.{same_name}
