@@ -28,8 +28,8 @@ module _ (whole : List EdgeParts) (layer : ℕ) (test : EdgeParts → Bool) wher
   shifted : (i r n m : ℕ) → m ≡ suc n → cond (nat_lt r n) (Some (suc i + r)) None ≡ cond (nat_lt (1 + r) m) (Some (i + (1 + r))) None
   shifted i r n m e =
       let test_same : nat_lt r n ≡ nat_lt (1 + r) m = agree (nat_lt r n) (nat_lt (1 + r) m)
-          (λ a. let b = ltb-true r n a in lt-ltb (1 + r) m (omega arith))
-          (λ a. let b = ltb-true (1 + r) m a in lt-ltb r n (omega arith)) in
+      (λ a. let b = ltb-true r n a in lt-ltb (1 + r) m (omega arith))
+      (λ a. let b = ltb-true (1 + r) m a in lt-ltb r n (omega arith)) in
       let number : suc i + r ≡ i + (1 + r) = omega arith in
       λ k. cond (test_same k) (Some (number k)) None
 
@@ -39,10 +39,10 @@ module _ (whole : List EdgeParts) (layer : ℕ) (test : EdgeParts → Bool) wher
   first_from i [] same = refl
   first_from i (x ∷ xs) same =
       let later : find (is_in whole layer) (places_from (suc i) test xs) ≡ cond (nat_lt (1 + position_or_len both xs) (length (x ∷ xs))) (Some (i + (1 + position_or_len both xs))) None =
-          first_from (suc i) xs (λ k lt. subst (λ n. parts_at whole n ≡ parts_at xs k) (omega arith) (same (suc k) (omega arith)))
-          ∙ shifted i (position_or_len both xs) (length xs) (length (x ∷ xs)) (omega arith) in
+      first_from (suc i) xs (λ k lt. subst (λ n. parts_at whole n ≡ parts_at xs k) (omega arith) (same (suc k) (omega arith)))
+      ∙ shifted i (position_or_len both xs) (length xs) (length (x ∷ xs)) (omega arith) in
       let here : (layer == (parts_at whole i).layer) ≡ (layer == x.layer) =
-          ap (λ (e : EdgeParts). layer == e.layer) (subst (λ n. parts_at whole n ≡ x) (omega arith) (same 0 (omega arith))) in
+      ap (λ (e : EdgeParts). layer == e.layer) (subst (λ n. parts_at whole n ≡ x) (omega arith) (same 0 (omega arith))) in
       go (test x) (layer == x.layer) here later
     where
       go : (t l : Bool) → (layer == (parts_at whole i).layer) ≡ l
