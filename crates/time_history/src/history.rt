@@ -17,7 +17,6 @@ ghost use Rattle.time_history.specs.Asked.{IsAliveAt, HappensAt, IsPresent, IsLa
 use crate::search::{Probe, first_after, last_place};
 use crate::span::Span;
 use crate::updates::{KeyValues, Kind, Update};
-use chunk_list::ChunkList;
 use graph_model::{Bounds, Model as Lasting, Value};
 use smallvec::SmallVec;
 use std::alloc::{AllocError, Global};
@@ -92,8 +91,7 @@ fn reserve_values(values: &mut SmallVec<KeyValues, 1>, props: &KeyValues) -> Res
 /// updates, and for how many more there is room.
 #[derive(Drop)]
 pub struct History {
-    column: TimeColumn,
-    details: ChunkList<Detail>,
+    column: TimeColumn<Detail>,
     // The first stands for all updates without values, or the second where the first update had values.
     values: SmallVec<KeyValues, 1>,
 }
@@ -105,12 +103,12 @@ impl Model for History {
     ghost Value = { Known };
 
     ghost view = { λ h. record {
-      updates = updates_of h.column.stamps (changes_of h.details.items h.values.items);
-      spare = takes h.values.items h.values.capacity (min h.column.spare h.details.spare);
-      spare_values = min (takes h.values.items h.values.capacity (min h.column.spare h.details.spare)) (h.values.capacity - length h.values.items);
+      updates = updates_of h.column.stamps (changes_of h.column.besides h.values.items);
+      spare = takes h.values.items h.values.capacity h.column.spare;
+      spare_values = min (takes h.values.items h.values.capacity h.column.spare) (h.values.capacity - length h.values.items);
     } };
 
-    ghost invariant = { λ h. IsSound h.column.stamps h.details.items h.values.items };
+    ghost invariant = { λ h. IsSound h.column.stamps h.column.besides h.values.items };
 }
 
 impl History {
@@ -124,7 +122,6 @@ impl History {
     {
         History {
             column: TimeColumn::new(alloc),
-            details: ChunkList::new(alloc),
             values: SmallVec::new(alloc),
         }
     }
@@ -134,7 +131,7 @@ impl History {
         ensures rising { UpdatesRise self.now.updates }
         ensures values { ValuesRise self.now.updates }
     {
-        self.details.len() as u32
+        self.column.len() as u32
     }
 
     /// All updates.
@@ -152,14 +149,14 @@ impl History {
         requires { i < length self.now.updates }
         ensures { result ≡ (update_at self.now.updates i).kind }
     {
-        self.details.get(i as usize).kind
+        self.column.beside_at(i as usize).kind
     }
 
     pub fn values_at(&self, i: u32) -> &KeyValues
         requires { i < length self.now.updates }
         ensures { result.now ≡ (update_at self.now.updates i).props }
     {
-        &self.values[self.details.get(i as usize).values as usize]
+        &self.values[self.column.beside_at(i as usize).values as usize]
     }
 
     pub fn time_at<L: Ledger>(&self, i: u32, steps: &mut Steps<L>) -> i64
@@ -188,8 +185,7 @@ impl History {
         ensures err { OnErr result (self.new ≡ self.old) }
     {
         reserve_values(&mut self.values, props)?;
-        self.column.reserve()?;
-        self.details.reserve()
+        self.column.reserve()
     }
 
     /// Places an update after all whose time and order are not greater.
@@ -241,15 +237,16 @@ impl History {
             kind,
             props,
         } = update;
-        let _ = self.column.insert(at, time, order, arrival);
         if takes_place(self.values.as_slice(), &props) {
             let values = self.values.len() as u32;
-            self.details.put(at, Detail { kind, values });
+            let detail = Detail { kind, values };
+            self.column.put(at, time, order, arrival, detail);
             self.values.push_reserved(props);
             return;
         }
         let values = blank_place(self.values.as_slice());
-        self.details.put(at, Detail { kind, values });
+        let detail = Detail { kind, values };
+        self.column.put(at, time, order, arrival, detail);
     }
 
     /// Whether what comes before a place is carried over it.

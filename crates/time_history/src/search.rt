@@ -17,7 +17,7 @@ pub enum Probe {
 }
 
 /// Whether the stamp at a place passes.
-pub fn test<L: Ledger>(column: &TimeColumn, i: usize, probe: Probe, steps: &mut Steps<L>) -> bool
+pub fn test<B: Copy + Default, L: Ledger>(column: &TimeColumn<B>, i: usize, probe: Probe, steps: &mut Steps<L>) -> bool
     requires { i < length column.now.stamps }
     ensures value { result ≡ passes probe (stamp_at column.now.stamps i) }
     ensures cost { steps.new ≡ steps.old + 1 }
@@ -29,8 +29,8 @@ pub fn test<L: Ledger>(column: &TimeColumn, i: usize, probe: Probe, steps: &mut 
 }
 
 /// The first place from `from` up to `to` whose stamp does not pass, or `to`.
-pub fn first_after<L: Ledger>(
-    column: &TimeColumn,
+pub fn first_after<B: Copy + Default, L: Ledger>(
+    column: &TimeColumn<B>,
     from: usize,
     to: usize,
     probe: Probe,
@@ -59,7 +59,7 @@ pub fn first_after<L: Ledger>(
 }
 
 /// The first place whose stamp does not pass, or the length. The last stamp is tried first.
-pub fn last_place<L: Ledger>(column: &TimeColumn, probe: Probe, steps: &mut Steps<L>) -> usize
+pub fn last_place<B: Copy + Default, L: Ledger>(column: &TimeColumn<B>, probe: Probe, steps: &mut Steps<L>) -> usize
     ensures within { result ≤ length column.now.stamps }
     ensures before { (k : ℕ) → k < result → passes probe (stamp_at column.now.stamps k) ≡ true }
     ensures after { (k : ℕ) → result ≤ k → k < length column.now.stamps → passes probe (stamp_at column.now.stamps k) ≡ false }

@@ -28,16 +28,16 @@ bound_is r lo t b fits e h = sym (h ∙ ap (λ z. int_lt z t) (to_z-of_z w64 r f
 pub returns-then-span : goal.returns-then-span
 returns-then-span g c =
     let s = c.self.inside in
-    let cs = changes_of s.details.items s.values.items in
-    let h = sound_lengths s.column.stamps s.details.items s.values.items c.self.invariant in
+    let cs = changes_of s.column.besides s.values.items in
+    let h = sound_lengths s.column.stamps s.column.besides s.values.items c.self.invariant in
     let rise = rising_times s.column.stamps cs c.args.self.now.updates h (ap (λ k. k.updates) c.self.view_is) c.self.invariant.rising in
     record { present = alone c.args.bounds c.args.self.now.updates c.args.span rise c.requires.span c.requires.taken c.if-span.true }
 
 pub returns-then-is_later : goal.returns-then-is_later
 returns-then-is_later g c =
     let s = c.self.inside in
-    let cs = changes_of s.details.items s.values.items in
-    let h = sound_lengths s.column.stamps s.details.items s.values.items c.self.invariant in
+    let cs = changes_of s.column.besides s.values.items in
+    let h = sound_lengths s.column.stamps s.column.besides s.values.items c.self.invariant in
     let rise = rising_times s.column.stamps cs c.args.self.now.updates h (ap (λ k. k.updates) c.self.view_is) c.self.invariant.rising in
     let cut = cut_of_taken (λ b. c.if-span.false b.0) c.requires.taken in
     let order = c.requires.span.order in
@@ -51,8 +51,8 @@ returns-then-is_later g c =
 pub returns-then-is_final : goal.returns-then-is_final
 returns-then-is_final g c =
     let s = c.self.inside in
-    let cs = changes_of s.details.items s.values.items in
-    let h = sound_lengths s.column.stamps s.details.items s.values.items c.self.invariant in
+    let cs = changes_of s.column.besides s.values.items in
+    let h = sound_lengths s.column.stamps s.column.besides s.values.items c.self.invariant in
     let rise = rising_times s.column.stamps cs c.args.self.now.updates h (ap (λ k. k.updates) c.self.view_is) c.self.invariant.rising in
     let cut = cut_of_taken (λ b. c.if-span.false b.0) c.requires.taken in
     let order = c.requires.span.order in
@@ -63,8 +63,8 @@ returns-then-is_final g c =
 pub returns : goal.returns
 returns g c =
     let s = c.self.inside in
-    let cs = changes_of s.details.items s.values.items in
-    let h = sound_lengths s.column.stamps s.details.items s.values.items c.self.invariant in
+    let cs = changes_of s.column.besides s.values.items in
+    let h = sound_lengths s.column.stamps s.column.besides s.values.items c.self.invariant in
     let rise = rising_times s.column.stamps cs c.args.self.now.updates h (ap (λ k. k.updates) c.self.view_is) c.self.invariant.rising in
     let cut = cut_of_taken (λ b. c.if-span.false b.0) c.requires.taken in
     let order = c.requires.span.order in
