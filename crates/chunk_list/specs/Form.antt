@@ -9,7 +9,7 @@ abbrev pub form_view : {T : Type 0} → Form T → Spaced T
 form_view Empty = record { items = []; spare = 2 }
 form_view (One a) = record { items = a ∷ []; spare = 1 }
 form_view (Two a b) = record { items = a ∷ b ∷ []; spare = 0 }
-form_view (Flat v) = record { items = v.value.items; spare = min (vec_capacity v.value) 512 - vec_len v.value }
+form_view (Flat v) = record { items = v.value.items; spare = min (vec_capacity v.value) 256 - vec_len v.value }
 form_view (Long p) = p.value
 
 -- a flat list is no longer than a part
@@ -17,7 +17,7 @@ abbrev pub IsShort : {T : Type 0} → Form T → Type 0
 IsShort Empty = ⊤
 IsShort (One a) = ⊤
 IsShort (Two a b) = ⊤
-IsShort (Flat v) = vec_len v.value ≤ 512
+IsShort (Flat v) = vec_len v.value ≤ 256
 IsShort (Long p) = ⊤
 
 -- the items lie in the list itself
@@ -33,7 +33,7 @@ abbrev pub TakesMore : {T : Type 0} → Form T → Type 0
 TakesMore Empty = ⊤
 TakesMore (One a) = ⊤
 TakesMore (Two a b) = ⊥
-TakesMore (Flat v) = vec_len v.value < 512
+TakesMore (Flat v) = vec_len v.value < 256
 TakesMore (Long p) = ⊤
 
 -- another form of the same items, where this one is full

@@ -2,8 +2,10 @@
 #![tactic(auto)]
 
 mod list;
+mod near;
 mod part;
 mod parts;
 mod places;
 
 pub use list::ChunkList;
+pub use near::Near;

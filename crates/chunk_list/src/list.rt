@@ -1,7 +1,9 @@
 //! The list.
 ghost use Rattle.std.specs.Prelude.{◌≡◌, ◌+◌, ◌<◌, ◌≤◌, [], length, slice_index_or, MatchOption, IfOk, OnOk, OnErr, IsOk};
 ghost use Rattle.std.specs.List.{insert};
+ghost use Rattle.chunk_list.specs.Middle.{IsMiddle};
 
+use crate::near::{Near, exact_middle};
 use crate::part::MOST;
 use crate::parts::Parts;
 use std::alloc::{AllocError, Global};
@@ -19,7 +21,7 @@ enum Form<T: Copy + Default> {
 }
 
 /// A list that takes insertions at any place. A contract sees its items, and how many more it takes
-/// without memory. A few items take no memory of their own. A long list lies in parts of at most 512
+/// without memory. A few items take no memory of their own. A long list lies in parts of at most 256
 /// items, and a part that is full is split in two.
 #[derive(Drop)]
 pub struct ChunkList<T: Copy + Default> {
@@ -109,8 +111,8 @@ impl<T: Copy + Default> ChunkList<T> {
         }
     }
 
-    /// The item at a place.
-    pub fn get(&self, i: usize) -> T
+    /// The item at a place, which is looked for first where a search stands.
+    pub fn get(&self, i: usize, near: Near) -> T
         requires { i < length self.now.items }
         ensures { result ≡ slice_index_or self.now.items i result }
     {
@@ -119,7 +121,26 @@ impl<T: Copy + Default> ChunkList<T> {
             Form::One(item) => *item,
             Form::Two(first, second) => if i == 0 { *first } else { *second },
             Form::Flat(items) => items[i],
-            Form::Long(parts) => parts.get(i),
+            Form::Long(parts) => parts.get(i, near),
+        }
+    }
+
+    /// Where a search from one place up to another begins.
+    pub fn near(&self, from: usize, to: usize) -> Near {
+        match &self.form {
+            Form::Long(parts) if from < to => parts.near(from, to),
+            _ => Near::default(),
+        }
+    }
+
+    /// A place from one up to another, so that both sides of it are shorter: the search looks there next.
+    pub fn middle(&self, from: usize, to: usize, near: &mut Near) -> usize
+        requires { from < to }
+        ensures { IsMiddle from to result }
+    {
+        match &self.form {
+            Form::Long(parts) => parts.middle(from, to, near),
+            _ => exact_middle(from, to),
         }
     }
 

@@ -6,7 +6,7 @@ use std::alloc::{AllocError, Global};
 use std::marker::Model;
 
 /// How many items a part takes.
-pub(crate) const MOST: usize = 512;
+pub(crate) const MOST: usize = 256;
 
 /// At most `MOST` items, with room for as many.
 #[derive(Drop)]
@@ -22,7 +22,7 @@ impl<T: Copy> Model for Part<T> {
 
     ghost view = { λ p. p.items.items };
 
-    ghost invariant = { λ p. (vec_len p.items ≤ 512) × (512 ≤ vec_capacity p.items) };
+    ghost invariant = { λ p. (vec_len p.items ≤ 256) × (256 ≤ vec_capacity p.items) };
 }
 
 impl<T: Copy> Part<T> {

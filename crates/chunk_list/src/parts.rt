@@ -3,11 +3,31 @@ ghost use Rattle.std.specs.Prelude.{◌≡◌, ℕ, ◌+◌, ◌<◌, ◌≤◌,
 ghost use Rattle.std.specs.List.{insert};
 ghost use Rattle.std.specs.Vec.{vec_capacity};
 ghost use Rattle.chunk_list.specs.Parts.{joined, part_at, starts};
+ghost use Rattle.chunk_list.specs.Middle.{IsMiddle};
 
+use crate::near::{Near, exact_middle, is_middle};
 use crate::part::{MOST, Part};
 use crate::places::Places;
 use std::alloc::{AllocError, Global};
 use std::marker::Model;
+
+/// The part of a place, which may be the one at hand.
+fn part_of<T: Copy>(firsts: &Places, parts: &[Part<T>], i: usize, hand: usize) -> usize
+    requires firsts { firsts.now.items ≡ starts 0 parts.now }
+    requires some { 0 < length parts.now }
+    requires place { i < length (joined parts.now) }
+    ensures within { result < length parts.now }
+    ensures low { slice_index firsts.now.items result ≤ i }
+    ensures high { i < slice_index firsts.now.items result + length (part_at parts.now result) }
+{
+    if hand < parts.len() {
+        let first = firsts.get(hand);
+        if first <= i && i - first < parts[hand].len() {
+            return hand;
+        }
+    }
+    firsts.last_at_most(i)
+}
 
 /// Puts an item in a part that is not full.
 fn put_in<T: Copy>(firsts: &mut Places, parts: &mut Vec<Part<T>>, at: usize, i: usize, item: T)
@@ -151,13 +171,43 @@ impl<T: Copy> Parts<T> {
         self.len
     }
 
-    /// The item at a place.
-    pub(crate) fn get(&self, i: usize) -> T
+    /// The item at a place, which is looked for first where a search stands.
+    pub(crate) fn get(&self, i: usize, near: Near) -> T
         requires { i < length self.now.items }
         ensures { result ≡ slice_index_or self.now.items i result }
     {
-        let at = self.firsts.last_at_most(i);
+        let at = part_of(&self.firsts, self.parts.as_slice(), i, near.part());
         self.parts[at].get(i - self.firsts.get(at))
+    }
+
+    /// Where a search from one place up to another begins.
+    pub(crate) fn near(&self, from: usize, to: usize) -> Near
+        requires { from < to }
+    {
+        let low = self.firsts.last_at_most(from);
+        Near::new(low, self.firsts.last_at_most(to - 1))
+    }
+
+    /// A place in the middle. Where the first place of a part will do, no part need be looked for.
+    pub(crate) fn middle(&self, from: usize, to: usize, near: &mut Near) -> usize
+        requires { from < to }
+        ensures { IsMiddle from to result }
+    {
+        let (low, high) = near.parts();
+        let last = high.min(self.parts.len() - 1);
+        if low >= last {
+            near.look(last, false);
+            return exact_middle(from, to);
+        }
+        let at = low + (last - low + 1) / 2;
+        let place = self.firsts.get(at);
+        if is_middle(from, place, to) {
+            near.look(at, true);
+            return place;
+        }
+        let place = exact_middle(from, to);
+        near.look(self.firsts.last_at_most(place), false);
+        place
     }
 
     /// Makes room for one more item.

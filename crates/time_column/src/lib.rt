@@ -4,6 +4,7 @@
 mod column;
 mod steps;
 
+pub use chunk_list::Near;
 pub use column::TimeColumn;
 pub use steps::Steps;
 

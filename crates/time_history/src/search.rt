@@ -5,7 +5,7 @@ ghost use Rattle.graph_model.specs.Searches.{digits};
 ghost use Rattle.time_history.specs.Probe.{passes};
 
 use std::sync::ledger::Ledger;
-use time_column::{Steps, TimeColumn};
+use time_column::{Near, Steps, TimeColumn};
 
 /// A test of a stamp. If one passes, so do those before it.
 #[derive(Clone, Copy, Drop)]
@@ -17,14 +17,20 @@ pub enum Probe {
 }
 
 /// Whether the stamp at a place passes.
-pub fn test<B: Copy + Default, L: Ledger>(column: &TimeColumn<B>, i: usize, probe: Probe, steps: &mut Steps<L>) -> bool
+pub fn test<B: Copy + Default, L: Ledger>(
+    column: &TimeColumn<B>,
+    i: usize,
+    near: Near,
+    probe: Probe,
+    steps: &mut Steps<L>,
+) -> bool
     requires { i < length column.now.stamps }
     ensures value { result ≡ passes probe (stamp_at column.now.stamps i) }
     ensures cost { steps.new ≡ steps.old + 1 }
 {
     match probe {
-        Probe::Earlier(time) => column.earlier_than(i, time, steps),
-        Probe::NotAfter(time, order) => column.not_after(i, time, order, steps),
+        Probe::Earlier(time) => column.earlier_than(i, near, time, steps),
+        Probe::NotAfter(time, order) => column.not_after(i, near, time, order, steps),
     }
 }
 
@@ -47,12 +53,15 @@ pub fn first_after<B: Copy + Default, L: Ledger>(
 {
     let mut low = from;
     let mut high = to;
+    let mut near = column.near(from, to);
     while low < high {
-        let mid = low + (high - low) / 2;
-        if test(column, mid, probe, steps) {
+        let mid = column.middle(low, high, &mut near);
+        if test(column, mid, near, probe, steps) {
             low = mid + 1;
+            near.go_after();
         } else {
             high = mid;
+            near.go_before();
         }
     }
     low
@@ -70,7 +79,7 @@ pub fn last_place<B: Copy + Default, L: Ledger>(column: &TimeColumn<B>, probe: P
     if len == 0 {
         return 0;
     }
-    if test(column, len - 1, probe, steps) {
+    if test(column, len - 1, Near::default(), probe, steps) {
         return len;
     }
     first_after(column, 0, len - 1, probe, steps)

@@ -11,24 +11,24 @@ pub overflow_sub-offset : goal.overflow_sub-offset
 overflow_sub-offset g c = omega (arith, c.get.ensures, c.requires.low)
 
 pub put_in-requires-clause-room : goal.put_in-requires-clause-room
-put_in-requires-clause-room g c = omega (arith, ap length c.split.ensures.upper, length-drop 512 (part_at c.args.parts.now.items c.args.at), c.requires.full)
+put_in-requires-clause-room g c = omega (arith, ap length c.split.ensures.upper, length-drop 256 (part_at c.args.parts.now.items c.args.at), c.requires.full)
 
 pub put_in-requires-then-offset-clause-high : goal.put_in-requires-then-offset-clause-high
 put_in-requires-then-offset-clause-high g c =
     let q = part_at c.args.parts.now.items c.args.at in
-    omega (arith, c.get.ensures, c.requires.low, c.requires.high, c.requires.full, c.split-2.ensures.first, c.split-2.ensures.next, ap length c.split-2.ensures.lower, ap length c.split-2.ensures.upper, length-take 256 q, length-drop 256 q)
+    omega (arith, c.get.ensures, c.requires.low, c.requires.high, c.requires.full, c.split-2.ensures.first, c.split-2.ensures.next, ap length c.split-2.ensures.lower, ap length c.split-2.ensures.upper, length-take 128 q, length-drop 128 q)
 
 pub put_in-requires-then-offset-clause-room : goal.put_in-requires-then-offset-clause-room
 put_in-requires-then-offset-clause-room g c =
     let q = part_at c.args.parts.now.items c.args.at in
-    omega (arith, c.get.ensures, c.requires.low, c.requires.high, c.requires.full, c.split-2.ensures.first, c.split-2.ensures.next, ap length c.split-2.ensures.lower, ap length c.split-2.ensures.upper, length-take 256 q, length-drop 256 q)
+    omega (arith, c.get.ensures, c.requires.low, c.requires.high, c.requires.full, c.split-2.ensures.first, c.split-2.ensures.next, ap length c.split-2.ensures.lower, ap length c.split-2.ensures.upper, length-take 128 q, length-drop 128 q)
 
 pub put_in-requires-else-offset-clause-high : goal.put_in-requires-else-offset-clause-high
 put_in-requires-else-offset-clause-high g c =
     let q = part_at c.args.parts.now.items c.args.at in
-    omega (arith, c.get.ensures, c.requires.low, c.requires.high, c.requires.full, c.split-2.ensures.first, c.split-2.ensures.next, ap length c.split-2.ensures.lower, ap length c.split-2.ensures.upper, length-take 256 q, length-drop 256 q)
+    omega (arith, c.get.ensures, c.requires.low, c.requires.high, c.requires.full, c.split-2.ensures.first, c.split-2.ensures.next, ap length c.split-2.ensures.lower, ap length c.split-2.ensures.upper, length-take 128 q, length-drop 128 q)
 
 pub put_in-requires-else-offset-clause-room : goal.put_in-requires-else-offset-clause-room
 put_in-requires-else-offset-clause-room g c =
     let q = part_at c.args.parts.now.items c.args.at in
-    omega (arith, c.get.ensures, c.requires.low, c.requires.high, c.requires.full, c.split-2.ensures.first, c.split-2.ensures.next, ap length c.split-2.ensures.lower, ap length c.split-2.ensures.upper, length-take 256 q, length-drop 256 q)
+    omega (arith, c.get.ensures, c.requires.low, c.requires.high, c.requires.full, c.split-2.ensures.first, c.split-2.ensures.next, ap length c.split-2.ensures.lower, ap length c.split-2.ensures.upper, length-take 128 q, length-drop 128 q)
