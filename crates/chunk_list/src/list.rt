@@ -1,5 +1,6 @@
 //! The list.
-ghost use Rattle.std.specs.Prelude.{◌≡◌, ◌+◌, ◌<◌, ◌≤◌, [], length, slice_index_or, MatchOption, IfOk, OnOk, OnErr, IsOk};
+ghost use Rattle.std.specs.Prelude.{◌≡◌, ◌+◌, ◌<◌, ◌≤◌, [], length, slice_index_or, vec_len, MatchOption, IfOk, OnOk, OnErr, IsOk};
+ghost use Rattle.std.specs.Vec.{vec_capacity};
 ghost use Rattle.std.specs.List.{insert};
 ghost use Rattle.chunk_list.specs.Middle.{IsMiddle};
 
@@ -87,6 +88,23 @@ fn with_item<T: Copy + Default>(form: &Form<T>, i: usize, item: T) -> Form<T>
     }
 }
 
+/// Makes room for one more item, and for half as many again, but for no more than a part takes.
+fn reserve_flat<T: Copy>(items: &mut Vec<T>) -> Result<(), AllocError>
+    requires { vec_len items.old < MOST }
+    ensures items { items.new.items ≡ items.old.items }
+    ensures len { vec_len items.new ≡ vec_len items.old }
+    ensures room { OnOk result (vec_len items.new < vec_capacity items.new) }
+    ensures capacity { vec_capacity items.old ≤ vec_capacity items.new }
+    ensures free { vec_len items.old < vec_capacity items.old → IsOk result }
+    ensures err { OnErr result (vec_capacity items.new ≡ vec_capacity items.old) }
+{
+    let len = items.len();
+    if len < items.capacity() {
+        return Ok(());
+    }
+    items.reserve_exact((len / 2 + 1).min(MOST - len))
+}
+
 impl<T: Copy + Default> ChunkList<T> {
     /// No item. The first two take no memory.
     pub fn new(alloc: Global) -> ChunkList<T>
@@ -157,7 +175,7 @@ impl<T: Copy + Default> ChunkList<T> {
             return Ok(());
         }
         match &mut self.form {
-            Form::Flat(items) => items.reserve(1),
+            Form::Flat(items) => reserve_flat(items),
             Form::Long(parts) => parts.reserve(),
             _ => Ok(()),
         }
