@@ -1,0 +1,6 @@
+pub mod Asked
+pub mod Unknown
+pub mod Written
+pub mod Happenings
+pub mod EdgeList
+pub mod Listing
