@@ -7,8 +7,9 @@ use Rattle.std.proofs.lemmas.Bool.{and_parts, true≢false}
 use Rattle.std.proofs.lemmas.Slice.Eq.{bytes_eq-Decides}
 use Rattle.std.proofs.lemmas.Option.{slice_get_within}
 use Rattle.graph_model.specs.declared.events.Model.{Model}
-use Rattle.graph_model.specs.declared.events.Model.TheVariants.{Event as Instants}
+use Rattle.graph_model.specs.declared.events.Model.TheVariants.{Event as Instants, Persistent}
 use Rattle.graph_model.specs.Command.{Files, command, first_value, is_path, model_of, value_of}
+use Rattle.graph_model.specs.Output.{model_word}
 use Rattle.query_run.specs.Commands.{HasOption, NamesFiles}
 
 -- a word further on, two words later
@@ -78,12 +79,23 @@ finds_its words option second third value x y six ab ac bc at bt ct =
 differs : (a b : List ℕ) → bytes_eq a b ≡ false → a ≡ b → ⊥
 differs a b apart e = true≢false (sym ((bytes_eq-Decides a b).1 e) ∙ apart)
 
-files_found : (words : List (List ℕ)) (events script : List ℕ) → NamesFiles words events script → command words ≡ Some (Files Instants events script)
-files_found words events script names =
-    let e = finds_its words (codes "--events") (codes "--model") (codes "--script") events (codes "event") script names.six (differs (codes "--events") (codes "--model") refl) (differs (codes "--events") (codes "--script") refl) (differs (codes "--model") (codes "--script") refl) names.events_file names.model names.script_file in
-    let s = finds_its words (codes "--script") (codes "--model") (codes "--events") script (codes "event") events names.six (differs (codes "--script") (codes "--model") refl) (differs (codes "--script") (codes "--events") refl) (differs (codes "--model") (codes "--events") refl) names.script_file names.model names.events_file in
-    let m = finds_its words (codes "--model") (codes "--events") (codes "--script") (codes "event") events script names.six (differs (codes "--model") (codes "--events") refl) (differs (codes "--model") (codes "--script") refl) (differs (codes "--events") (codes "--script") refl) names.model names.events_file names.script_file in
-    rw (names.six, e, s, m, names.events_path, names.script_path) refl
+-- the word of a model names it
+model_of-word : (model : Model) → model_of (model_word model) ≡ Some model
+model_of-word Instants = refl
+model_of-word Persistent = refl
+
+model_word-some : (model : Model) → model_word model ≡ [] → ⊥
+model_word-some Instants = differs (codes "event") [] refl
+model_word-some Persistent = differs (codes "persistent") [] refl
+
+files_found : (words : List (List ℕ)) (model : Model) (events script : List ℕ) → NamesFiles words model events script → command words ≡ Some (Files model events script)
+files_found words model events script names =
+    let word = model_word model in
+    let e = finds_its words (codes "--events") (codes "--model") (codes "--script") events word script names.six (differs (codes "--events") (codes "--model") refl) (differs (codes "--events") (codes "--script") refl) (differs (codes "--model") (codes "--script") refl) names.events_file names.named_model names.script_file in
+    let s = finds_its words (codes "--script") (codes "--model") (codes "--events") script word events names.six (differs (codes "--script") (codes "--model") refl) (differs (codes "--script") (codes "--events") refl) (differs (codes "--model") (codes "--events") refl) names.script_file names.named_model names.events_file in
+    let m = finds_its words (codes "--model") (codes "--events") (codes "--script") word events script names.six (differs (codes "--model") (codes "--events") refl) (differs (codes "--model") (codes "--script") refl) (differs (codes "--events") (codes "--script") refl) names.named_model names.events_file names.script_file in
+    let named = model_of-word model in
+    rw (names.six, e, s, m, names.events_path, names.script_path, named) refl
 
 -- a value that is not empty stands behind its option
 stands : (words : List (List ℕ)) (option word : List ℕ) → value_of words option ≡ word → (word ≡ [] → ⊥) → HasOption words option word
@@ -100,15 +112,17 @@ path_some (byte ∷ bytes) h = differs (byte ∷ bytes) [] refl
 six_is : (n : ℕ) → (n == 6) ≡ true → n ≡ 6
 six_is n h = grind (arith, nat_tests)
 
-model_is : (word : List ℕ) (model : Model) → model_of word ≡ Some model → word ≡ codes "event"
-model_is word model h = by (bytes_eq word (codes "event")) refl h
+model_is : (word : List ℕ) (model : Model) → model_of word ≡ Some model → word ≡ model_word model
+model_is word model h = by (bytes_eq word (codes "event")) refl (bytes_eq word (codes "persistent")) refl h
   where
-    by : (t : Bool) → bytes_eq word (codes "event") ≡ t → (if t then Some Instants else None) ≡ Some model → word ≡ codes "event"
-    by true is k = (bytes_eq-Decides word (codes "event")).0 is
-    by false is k = cc
+    by : (t : Bool) → bytes_eq word (codes "event") ≡ t → (u : Bool) → bytes_eq word (codes "persistent") ≡ u
+        → (if t then Some Instants else (if u then Some Persistent else None)) ≡ Some model → word ≡ model_word model
+    by true is u other k = let same : Instants ≡ model = cc in (bytes_eq-Decides word (codes "event")).0 is ∙ ap model_word same
+    by false is true other k = let same : Persistent ≡ model = cc in (bytes_eq-Decides word (codes "persistent")).0 other ∙ ap model_word same
+    by false is false other k = cc
 
-files_named : (words : List (List ℕ)) (events script : List ℕ) → command words ≡ Some (Files Instants events script) → NamesFiles words events script
-files_named words events script h = by ((length words == 6) && (is_path e && is_path s)) refl (model_of m) refl h
+files_named : (words : List (List ℕ)) (model : Model) (events script : List ℕ) → command words ≡ Some (Files model events script) → NamesFiles words model events script
+files_named words model events script h = by ((length words == 6) && (is_path e && is_path s)) refl (model_of m) refl h
   where
     e : List ℕ
     e = value_of words (codes "--events")
@@ -120,25 +134,26 @@ files_named words events script h = by ((length words == 6) && (is_path e && is_
     m = value_of words (codes "--model")
 
     by : (t : Bool) → ((length words == 6) && (is_path (value_of words (codes "--events")) && is_path (value_of words (codes "--script")))) ≡ t → (o : Option Model) → model_of (value_of words (codes "--model")) ≡ o
-        → (if t then option_map (λ model. Files model (value_of words (codes "--events")) (value_of words (codes "--script"))) o else None) ≡ Some (Files Instants events script) → NamesFiles words events script
+        → (if t then option_map (λ named. Files named (value_of words (codes "--events")) (value_of words (codes "--script"))) o else None) ≡ Some (Files model events script) → NamesFiles words model events script
     by false test o of k = cc
     by true test None of k = cc
-    by true test (Some model) of k =
+    by true test (Some named) of k =
         let first = and_parts (length words == 6) (is_path (value_of words (codes "--events")) && is_path (value_of words (codes "--script"))) test in
         let paths = and_parts (is_path (value_of words (codes "--events"))) (is_path (value_of words (codes "--script"))) first.1 in
         let same_events : value_of words (codes "--events") ≡ events = cc in
         let same_script : value_of words (codes "--script") ≡ script = cc in
-        let event = model_is (value_of words (codes "--model")) model of in
+        let same_model : named ≡ model = cc in
+        let word = model_is (value_of words (codes "--model")) model (of ∙ ap Some same_model) in
         let events_path : is_path events ≡ true = rw same_events at paths.0 in
         let script_path : is_path script ≡ true = rw same_script at paths.1 in
         record {
           six = six_is (length words) first.0;
-          model = stands words (codes "--model") (codes "event") event (differs (codes "event") [] refl);
+          named_model = stands words (codes "--model") (model_word model) word (model_word-some model);
           events_file = stands words (codes "--events") events same_events (path_some events events_path);
           script_file = stands words (codes "--script") script same_script (path_some script script_path);
           events_path = events_path;
           script_path = script_path;
         }
 
-pub command-named : (words : List (List ℕ)) (events script : List ℕ) → (command words ≡ Some (Files Instants events script)) ↔ NamesFiles words events script
-command-named words events script = (files_named words events script, files_found words events script)
+pub command-named : (words : List (List ℕ)) (model : Model) (events script : List ℕ) → (command words ≡ Some (Files model events script)) ↔ NamesFiles words model events script
+command-named words model events script = (files_named words model events script, files_found words model events script)

@@ -10,9 +10,11 @@ use Rattle.graph_model.specs.Windows.{windows}
 use Rattle.graph_model.specs.Answer.{Row, row_fields}
 use Rattle.graph_model.specs.RowText.{rows_text}
 use Rattle.graph_model.specs.Reading.{reading, world_of}
-use Rattle.graph_model.specs.Script.{QueryRefusal, is_blank, lines_of, query_of}
+use Rattle.graph_model.specs.Script.{QueryRefusal, is_blank, lines_of}
+use Rattle.graph_model.specs.QueryLine.{query_of}
 use Rattle.graph_model.specs.Output.{AreBlocks, AreParts, IsBlockOf, IsOutput, IsPart, IsQueryBlock, graph_row, query_row, refused_row, world_row}
 use Rattle.world_laws.proofs.Rows.{one_answer}
+use Rattle.query_run.specs.Answered.{is_answered}
 use Rattle.query_run.specs.Rows.{line_blocks}
 use Rattle.query_run.proofs.Written.{line_blocks-are}
 
@@ -38,22 +40,22 @@ block-one : (w : World) (number : ℕ) (blank : Bool) (query : Result Query Quer
 block-one w number true query xs ys p q = p ∙ sym q
 block-one w number false query xs ys p q = query-one w number query xs ys p q
 
-blocks-one : (w : World) (number : ℕ) (lines : List (List ℕ)) (xs ys : List (List (List ℕ))) → AreBlocks w number lines xs → AreBlocks w number lines ys → xs ≡ ys
+blocks-one : (w : World) (number : ℕ) (lines : List (List ℕ)) (xs ys : List (List (List ℕ))) → AreBlocks is_answered w number lines xs → AreBlocks is_answered w number lines ys → xs ≡ ys
 blocks-one w number [] xs ys p q = p ∙ sym q
 blocks-one w number (line ∷ lines) xs ys p q =
-    joined p.0 p.1 q.0 q.1 xs ys (block-one w number (is_blank line) (query_of line) p.0 q.0 p.2 q.2) (blocks-one w (number + 1) lines p.1 q.1 p.3 q.3) p.4 q.4
+    joined p.0 p.1 q.0 q.1 xs ys (block-one w number (is_blank line) (query_of is_answered line) p.0 q.0 p.2 q.2) (blocks-one w (number + 1) lines p.1 q.1 p.3 q.3) p.4 q.4
 
 -- an output with these blocks
 abbrev text_with : Model → List ℕ → List (List (List ℕ)) → List ℕ
 text_with model events blocks = let r = reading model events in
     rows_text (map refused_row r.refused ++ (graph_row model r.bounds (length r.accepted) (length r.refused) ∷ blocks))
 
-pub output-one : (model : Model) (events script text other : List ℕ) → IsOutput model events script text → IsOutput model events script other → text ≡ other
+pub output-one : (model : Model) (events script text other : List ℕ) → IsOutput is_answered model events script text → IsOutput is_answered model events script other → text ≡ other
 unfolding IsOutput
 output-one model events script text other p q =
     p.2 ∙ ap (text_with model events) (blocks-one (world_of model (reading model events)) 1 (lines_of script) p.0 q.0 p.1 q.1) ∙ sym q.2
 
-pub output-some : (model : Model) (events script : List ℕ) → (text : List ℕ) × IsOutput model events script text
+pub output-some : (model : Model) (events script : List ℕ) → (text : List ℕ) × IsOutput is_answered model events script text
 unfolding IsOutput
 output-some model events script =
     let w = world_of model (reading model events) in

@@ -1,25 +1,34 @@
 -- Rows that were written one after another, and the blocks that they are.
-use Rattle.std.proofs.Common.{◌≡◌, ◌∙◌, ◌++◌, ◌∷◌, ◌+◌, ◌<◌, [], ℕ, Bool, true, false, List, None, length, drop, get_or, map, refl, sym, ap, append_assoc, subst}
+use Rattle.std.proofs.Common.{◌≡◌, ◌∙◌, ◌++◌, ◌∷◌, ◌+◌, ◌<◌, [], ℕ, Bool, true, false, List, length, drop, get_or, map, refl, sym, ap, append_assoc, subst}
 use Rattle.std.proofs.lemmas.List.{drop_more, length-map}
 use Rattle.std.proofs.lemmas.List.Elements.{All-get_or}
 use Rattle.std.proofs.lemmas.Simd.{map-map}
 use Rattle.std.proofs.lemmas.Grind.{flat_map-append}
-use Rattle.std.specs.Prelude.{OnOk, Result, Ok, Err, Some, slice_get, All, if◌then◌else◌}
+use Rattle.std.specs.List.{list_all}
+use Rattle.std.proofs.lemmas.Bool.{and_parts}
+use Rattle.std.specs.Prelude.{◌&&◌, OnOk, Result, Ok, Err, Some, slice_get, All, if◌then◌else◌}
 use Rattle.std.proofs.lemmas.Option.{get_or_from_slice_get, slice_get_within}
 use Rattle.csv.specs.Writing.{default_writer, row_text}
+use Rattle.graph_model.specs.declared.queries.Ask.{Ask}
 use Rattle.graph_model.specs.declared.queries.Ask.TheVariants.{Degree}
+use Rattle.graph_model.specs.declared.queries.Query.{Query}
+use Rattle.graph_model.specs.Interval.{Interval}
 use Rattle.graph_model.specs.World.{World}
 use Rattle.graph_model.specs.Presence.{nodes}
-use Rattle.graph_model.specs.Answer.{degree_row, row_fields}
+use Rattle.graph_model.specs.Answer.{IsAnswer, degree_row, row_fields}
 use Rattle.graph_model.specs.RowText.{rows_text}
 use Rattle.graph_model.specs.Refusal.{RecordRefusal}
-use Rattle.graph_store.specs.Contents.{Contents, base_of}
+use Rattle.graph_store.specs.Contents.{Contents}
 use Rattle.walk_algorithms.specs.Degrees.{degree_row_of}
 use Rattle.walk_algorithms.specs.declared.degree_rows.Degree.{Degree as Degreed}
-use Rattle.graph_model.specs.Script.{Unbuilt, asks_degrees, is_blank}
-use Rattle.graph_model.specs.Output.{AreBlocks, IsBlock, IsBlockOf, IsPart, refused_row, world_row}
+use Rattle.graph_model.specs.Stack.{apply}
+use Rattle.graph_model.specs.Windows.{windows}
+use Rattle.graph_model.specs.Script.{QueryRefusal, Unbuilt, is_blank}
+use Rattle.graph_model.specs.QueryLine.{if_answered, query_of, query_said}
+use Rattle.graph_model.specs.Output.{AreBlocks, AreParts, IsAnswerBlock, IsBlock, IsBlockOf, IsQueryBlock, refused_row, world_row}
 use Rattle.world_laws.proofs.Answers.{answer_degree}
-use Rattle.query_run.specs.Rows.{block_of, degree_rows, line_block, line_blocks}
+use Rattle.query_run.specs.Answered.{is_answered, is_answered_ask, is_answered_each, is_answered_view}
+use Rattle.query_run.specs.Rows.{answer_block, answer_rows, block_of, line_block, line_blocks, part_rows, parts_rows, query_block}
 
 -- the row of an item, and those of the items behind it
 pub rows_text-step : {X : Type 0} (f : X → List (List ℕ)) (xs : List X) (i : ℕ) (x : X) (before after : List ℕ) → i < length xs → x ≡ get_or xs i x
@@ -28,10 +37,9 @@ rows_text-step f xs i x before after within is written =
     let left : drop i xs ≡ x ∷ drop (i + 1) xs = drop_more xs i x within ∙ ap (λ y. y ∷ drop (i + 1) xs) (sym is) in
     rw (written, left, append_assoc) refl
 
--- two rows in front of others
-pub rows_text-front : (first second : List (List ℕ)) (rows : List (List (List ℕ))) (old one two : List ℕ) → one ≡ old ++ row_text default_writer first → two ≡ one ++ row_text default_writer second
-    → two ++ rows_text rows ≡ old ++ rows_text (first ∷ second ∷ rows)
-rows_text-front first second rows old one two e f = rw (f, e) (simp append_assoc)
+-- a row in front of others
+pub rows_text-first : (first : List (List ℕ)) (rows : List (List (List ℕ))) (old one : List ℕ) → one ≡ old ++ row_text default_writer first → one ++ rows_text rows ≡ old ++ rows_text (first ∷ rows)
+rows_text-first first rows old one e = rw e (simp append_assoc)
 
 -- rows that are written behind those in front of them
 pub rows_text-behind : {T E : Type 0} (written : Result T E) (rows all : List (List (List ℕ))) (old front after : List ℕ) → front ++ rows_text rows ≡ old ++ rows_text all
@@ -57,36 +65,70 @@ pub all-got : {X : Type 0} (P : X → Type 0) (xs : List X) (i : ℕ) (x : X) �
 all-got P xs i x all got = subst P (get_or_from_slice_get xs i x x got) (All-get_or P xs i x (slice_get_within xs i x got) all)
 
 -- the rows of numbered nodes are those of the nodes that the numbers name
-pub degree_rows-named : (c : Contents) (rows : List Degreed) → map (degree_row_of c) rows ≡ map (degree_row (base_of c)) (nodes (base_of c))
-    → (map (λ d. row_fields (degree_row_of c d)) rows ≡ degree_rows (base_of c)) × (length rows ≡ length (nodes (base_of c)))
-degree_rows-named c rows same = (
-  sym (map-map row_fields (degree_row_of c) rows) ∙ ap (map row_fields) same ∙ map-map row_fields (degree_row (base_of c)) (nodes (base_of c)),
-  sym (length-map rows (degree_row_of c)) ∙ ap length same ∙ length-map (nodes (base_of c)) (degree_row (base_of c)),
-)
+pub degree_rows-named : (c : Contents) (w : World) (rows : List Degreed) → map (degree_row_of c) rows ≡ map (degree_row w) (nodes w)
+    → (map (λ d. row_fields (degree_row_of c d)) rows ≡ map row_fields (answer_rows w Degree)) × (length rows ≡ length (answer_rows w Degree))
+degree_rows-named c w rows same = (sym (map-map row_fields (degree_row_of c) rows) ∙ ap (map row_fields) same, sym (length-map rows (degree_row_of c)) ∙ ap length same)
 
--- the part of a world of a question for degrees
-degree-part : (w : World) → IsPart w Degree (world_row w.bounds (length (nodes w)) ∷ degree_rows w)
-degree-part w = (
-  map (degree_row w) (nodes w),
-  answer_degree w,
-  rw (length-map (nodes w) (degree_row w)) (ap (λ rows. world_row w.bounds (length (nodes w)) ∷ rows) (sym (map-map row_fields (degree_row w) (nodes w)))),
-)
+-- the row of a world, and the rows of numbered nodes, are the part of a question for degrees
+pub degree_part-text : {T E : Type 0} (written : Result T E) (c store : Contents) (w : World) (rows : List Degreed) (bounds : Interval) (size : ℕ) (old front after : List ℕ) → store ≡ c → bounds ≡ w.bounds → size ≡ length rows
+    → map (degree_row_of c) rows ≡ map (degree_row w) (nodes w) → front ≡ old ++ row_text default_writer (world_row bounds size)
+    → OnOk written (after ≡ front ++ rows_text (map (λ d. row_fields (degree_row_of store d)) rows)) → OnOk written (after ≡ old ++ rows_text (part_rows Degree w))
+degree_part-text written c store w rows bounds size old front after is_store is_bounds is_size same first rest =
+    let (named, count) = degree_rows-named c w rows same in
+    let fields = map row_fields (answer_rows w Degree) in
+    let number : size ≡ length (answer_rows w Degree) = is_size ∙ count in
+    let led = rows_text-first (world_row bounds size) fields old front first in
+    let block = rw (is_bounds, number) at led in
+    rows_text-behind written fields (part_rows Degree w) old front after block (rw (is_store, named) at rest)
 
-append-none : {X : Type 0} (xs : List X) → xs ≡ xs ++ []
-append-none [] = refl
-append-none (x ∷ xs) = ap (λ ys. x ∷ ys) (append-none xs)
+-- the block of a line, and those of the lines behind it
+pub line_blocks-more : (w : World) (number : ℕ) (left more : List (List ℕ)) (line before after all : List ℕ) → left ≡ line ∷ more → after ≡ before ++ rows_text (line_block w number line)
+    → before ++ rows_text (line_blocks w number left) ≡ all → after ++ rows_text (line_blocks w (number + 1) more) ≡ all
+line_blocks-more w number left more line before after all is written so_far =
+    let block = line_block w number line in
+    let blocks = line_blocks w (number + 1) more in
+    let whole : before ++ rows_text (block ++ blocks) ≡ all = ap (λ lines. before ++ rows_text (line_blocks w number lines)) (sym is) ∙ so_far in
+    ap (λ text. text ++ rows_text blocks) written ∙ append_assoc before (rows_text block) (rows_text blocks)
+    ∙ ap (λ text. before ++ text) (sym (flat_map-append (row_text default_writer) block blocks)) ∙ whole
 
-line_block-is : (w : World) (number : ℕ) (line : List ℕ) → IsBlock w number line (line_block w number line)
-line_block-is w number line = by (is_blank line) (asks_degrees line)
+-- whether a line is clean, and the lines behind it
+pub clean-more : (clean_line : List ℕ → Bool) (left more : List (List ℕ)) (line : List ℕ) (clean line_clean next all : Bool) → left ≡ line ∷ more → line_clean ≡ clean_line line → next ≡ (clean && line_clean)
+    → (clean && list_all clean_line left) ≡ all → (next && list_all clean_line more) ≡ all
+clean-more clean_line left more line true line_clean next all is at both so_far = ap (λ b. b && list_all clean_line more) (both ∙ at) ∙ ap (λ lines. list_all clean_line lines) (sym is) ∙ so_far
+clean-more clean_line left more line false line_clean next all is at both so_far = ap (λ b. b && list_all clean_line more) both ∙ so_far
+
+-- the rows that answer a question
+answer_rows-are : (w : World) (ask : Ask) → is_answered_ask ask ≡ true → IsAnswer w ask (answer_rows w ask)
+answer_rows-are w Degree h = answer_degree w
+answer_rows-are w _ h = cc
+
+parts_rows-are : (worlds : List World) (ask : Ask) → is_answered_ask ask ≡ true → AreParts worlds ask (parts_rows ask worlds)
+parts_rows-are [] ask h = refl
+parts_rows-are (w ∷ more) ask h = (part_rows ask w, parts_rows ask more, (answer_rows w ask, answer_rows-are w ask h, refl), parts_rows-are more ask h, refl)
+
+answer_block-is : (w : World) (number : ℕ) (query : Query) → is_answered query ≡ true → IsAnswerBlock w number query (answer_block w number query)
+unfolding answer_block
+answer_block-is w number query h =
+    let first = and_parts (is_answered_ask query.ask && list_all is_answered_view query.views) (is_answered_each query.each) h in
+    let asked = and_parts (is_answered_ask query.ask) (list_all is_answered_view query.views) first.0 in
+    let worlds = windows (apply query.views w) query.each in
+    (parts_rows query.ask worlds, parts_rows-are worlds query.ask asked.0, refl)
+
+query_block-is : (w : World) (number : ℕ) (said : Result Query QueryRefusal) → IsQueryBlock w number (if_answered is_answered said) (query_block w number (if_answered is_answered said))
+query_block-is w number (Ok query) = by (is_answered query) refl
   where
-    by : (blank asks : Bool) → IsBlockOf w number blank (if asks then Ok (record { ask = Degree; views = []; each = None }) else Err Unbuilt)
-        (block_of w number blank (if asks then Ok (record { ask = Degree; views = []; each = None }) else Err Unbuilt))
-    by true asks = refl
-    by false true =
-        let part = world_row w.bounds (length (nodes w)) ∷ degree_rows w in
-        (part, (part, [], degree-part w, refl, append-none part), refl)
-    by false false = refl
+    by : (b : Bool) → is_answered query ≡ b → IsQueryBlock w number (if b then Ok query else Err Unbuilt) (query_block w number (if b then Ok query else Err Unbuilt))
+    by true is = answer_block-is w number query is
+    by false is = refl
+query_block-is w number (Err refusal) = refl
 
-pub line_blocks-are : (w : World) (number : ℕ) (lines : List (List ℕ)) → AreBlocks w number lines (line_blocks w number lines)
+line_block-is : (w : World) (number : ℕ) (line : List ℕ) → IsBlock is_answered w number line (line_block w number line)
+line_block-is w number line = by (is_blank line)
+  where
+    by : (blank : Bool) → IsBlockOf w number blank (query_of is_answered line) (block_of w number blank (query_of is_answered line))
+    by true = refl
+    by false = query_block-is w number (query_said line)
+
+pub line_blocks-are : (w : World) (number : ℕ) (lines : List (List ℕ)) → AreBlocks is_answered w number lines (line_blocks w number lines)
 line_blocks-are w number [] = refl
 line_blocks-are w number (line ∷ lines) = (line_block w number line, line_blocks w (number + 1) lines, line_block-is w number line, line_blocks-are w (number + 1) lines, refl)

@@ -1,12 +1,12 @@
 -- What a run does to its inputs and its sink.
-use Rattle.std.specs.Prelude.{◌≡◌, ◌⊎◌, ◌<◌, ◌≤◌, ◌+◌, ◌%◌, ◌^◌, ℕ, true, false, List, Option, Some, None, length, take, ⊤}
+use Rattle.std.specs.Prelude.{◌≡◌, ◌⊎◌, ◌<◌, ◌≤◌, ◌+◌, ◌%◌, ◌^◌, ℕ, true, false, IsTrue, List, Option, Some, None, length, take, ⊤}
 use Rattle.std.specs.Io.KnownBytes.{append_known}
 use Rattle.graph_model.specs.declared.events.Model.{Model}
 use Rattle.graph_model.specs.Command.{Command, Files}
 use Rattle.graph_model.specs.Output.{IsOutput, is_clean}
-use Rattle.graph_model.specs.Reading.{reading}
 use Rattle.outside_io.specs.Outside.{IsLonger, IsMissing, bytes_of}
-use Rattle.query_run.specs.Cost.{most_steps}
+use Rattle.query_run.specs.Answered.{is_answered}
+use Rattle.query_run.specs.Cost.{counted_steps, is_counted_script}
 use Rattle.query_run.specs.declared.top.Which.{Which}
 use Rattle.query_run.specs.declared.top.Which.TheVariants.{Events, Script}
 use Rattle.query_run.specs.declared.top.Status.{Status}
@@ -20,16 +20,16 @@ HasFiles (Some (Files model events script)) (Some files) P = (e : List ℕ) × (
 
 -- the whole output was written behind what was there
 abbrev pub WritesAll : Option (List ℕ) → Option (List ℕ) → Model → List ℕ → List ℕ → Type 0
-WritesAll old new model events script = (text : List ℕ) × IsOutput model events script text × (new ≡ append_known old text)
+WritesAll old new model events script = (text : List ℕ) × IsOutput is_answered model events script text × (new ≡ append_known old text)
 
 -- a front of the output was written behind what was there
 abbrev pub WritesFrontOf : Option (List ℕ) → Option (List ℕ) → Model → List ℕ → List ℕ → Type 0
-WritesFrontOf old new model events script = (text : List ℕ) × IsOutput model events script text × (n : ℕ) × (n ≤ length text) × (new ≡ append_known old (take n text))
+WritesFrontOf old new model events script = (text : List ℕ) × IsOutput is_answered model events script text × (n : ℕ) × (n ≤ length text) × (new ≡ append_known old (take n text))
 
 -- what was written, by the status
 abbrev pub Writes : Status → Option Command → Option (List (List ℕ × List ℕ)) → Option (List ℕ) → Option (List ℕ) → Type 0
-Writes Done command files old new = HasFiles command files (λ model events script. WritesAll old new model events script × (is_clean model events script ≡ true))
-Writes DoneWithRefusals command files old new = HasFiles command files (λ model events script. WritesAll old new model events script × (is_clean model events script ≡ false))
+Writes Done command files old new = HasFiles command files (λ model events script. WritesAll old new model events script × (is_clean is_answered model events script ≡ true))
+Writes DoneWithRefusals command files old new = HasFiles command files (λ model events script. WritesAll old new model events script × (is_clean is_answered model events script ≡ false))
 Writes OutputFault command files old new = HasFiles command files (WritesFrontOf old new)
 Writes Usage command files old new = new ≡ old
 Writes Memory command files old new = new ≡ old
@@ -95,15 +95,11 @@ IsOver which begun_before begun given = (begun ≡ (begun_before + place_of whic
 abbrev pub IsAmiss : Option Command → Option (List (List ℕ × List ℕ)) → Type 0
 IsAmiss command files = (command ≡ None) ⊎ (Misses command files Events ⊎ Misses command files Script)
 
--- at most so many readings of stored times for an events file and a script; what questions for degrees cost is none
-abbrev pub counted_steps : Model → List ℕ → List ℕ → ℕ
-counted_steps model events script = most_steps (length (reading model events).accepted)
-
--- how many steps a run adds: none where the words are no command or a file is missing, and no more than the files ask for where both are told
+-- how many steps a run adds: none where the words are no command or a file is missing, and no more than the files ask for where both are told and each answered query is counted
 abbrev pub AddsUpTo : Model → Option (List ℕ) → Option (List ℕ) → ℕ → ℕ → Type 0
 AddsUpTo model None script old new = new ≡ old
 AddsUpTo model (Some events) None old new = new ≡ old
-AddsUpTo model (Some events) (Some script) old new = new ≤ old + counted_steps model events script
+AddsUpTo model (Some events) (Some script) old new = IsTrue (is_counted_script model script) → new ≤ old + counted_steps model events script
 
 abbrev pub IsCounted : Option Command → Option (List (List ℕ × List ℕ)) → ℕ → ℕ → Type 0
 IsCounted None files old new = new ≡ old

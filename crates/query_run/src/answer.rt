@@ -1,37 +1,44 @@
-// The whole output for an events file and a script.
-ghost use Rattle.std.specs.Prelude.{◌≡◌, ◌≤◌, ◌<◌, ◌+◌, ◌++◌, ◌==◌, ◌&&◌, All, map, length, IfOk, OnOk};
-ghost use Rattle.std.specs.List.{list_all};
-ghost use Rattle.graph_model.specs.declared.events.Model.TheVariants.{Event as Instants};
+// Answers to queries.
+ghost use Rattle.std.specs.Prelude.{◌≡◌, ◌≤◌, ◌<◌, ◌+◌, ◌++◌, [], All, map, length, true, false, IsTrue, IsErrOf, OnOk};
 ghost use Rattle.graph_model.specs.Answer.{row_fields};
 ghost use Rattle.graph_model.specs.RowText.{rows_text};
-ghost use Rattle.graph_model.specs.Reading.{reading};
-ghost use Rattle.graph_model.specs.Script.{lines_of};
-ghost use Rattle.graph_model.specs.Output.{IsOutput, is_clean, is_clean_line, refused_row};
+ghost use Rattle.graph_model.specs.Searches.{fused_searches};
 ghost use Rattle.graph_store.specs.Contents.{base_of};
 ghost use Rattle.walk_algorithms.specs.Degrees.{degree_row_of};
-ghost use Rattle.query_run.specs.Cost.{most_steps};
-ghost use Rattle.query_run.specs.Rows.{degree_block, line_block, line_blocks, output_text};
-ghost use Rattle.query_run.specs.Told.{refused_of, told};
+ghost use Rattle.query_run.specs.Answered.{is_answered, is_answered_ask};
+ghost use Rattle.query_run.specs.Cost.{ask_steps, is_counted_ask, is_counted_query, query_steps, size_of};
+ghost use Rattle.query_run.specs.Rows.{answer_block, part_rows};
 
-use crate::lines::{first_line, has_only_spaces, is_degree_query};
-use crate::reading::{FileReading, RefusedRecord, read_events};
-use crate::rows::{add_degree, add_graph, add_query, add_refused, add_refused_query, add_world};
+use crate::answered::answers;
+use crate::rows::{add_degree, add_query, add_world};
+use base_graphs::{EventGraph, PersistentGraph};
 use event_rows::RowWriter;
-use graph_model::{Memory, Model};
+use graph_model::{Ask, Memory, Query};
 use graph_store::Store;
-use std::alloc::Global;
+use std::alloc::{AllocError, Global};
 use std::sync::ledger::Ledger;
 use time_column::Steps;
+use view_trait::View;
 use walk_algorithms::{DegreeRows, degrees};
 
-// Adds the rows of refused records.
-fn add_all_refused(out: &mut RowWriter, refused: &[RefusedRecord]) -> Result<(), Memory>
-    ensures { OnOk result (out.new ≡ out.old ++ rows_text (map (λ r. refused_row (refused_of r)) refused.now)) }
-{
-    for refusal in refused {
-        add_refused(out, *refusal)?;
+/// Why a query is not answered.
+#[derive(Clone, Copy, Debug, PartialEq, Eq, Drop)]
+pub enum AnswerFault {
+    /// It has a view, a question or windows that are not answered yet.
+    Unbuilt,
+    /// Memory was wanting.
+    Memory,
+}
+
+impl From<AllocError> for AnswerFault {
+    ghost use Rattle.std.specs.Prelude.{◌≡◌};
+    ghost use Rattle.query_run.specs.declared.answer.AnswerFault.TheVariants.{Memory};
+
+    ghost from_gives = { λ _ fault. fault ≡ Memory };
+
+    fn from(_: AllocError) -> AnswerFault {
+        AnswerFault::Memory
     }
-    Ok(())
 }
 
 // Adds the rows of degrees.
@@ -45,103 +52,83 @@ fn add_degrees(out: &mut RowWriter, store: &Store, rows: &DegreeRows) -> Result<
     Ok(())
 }
 
-// Adds the block of a question for degrees.
-fn add_answer(alloc: Global, out: &mut RowWriter, store: &Store, line: u64) -> Result<(), Memory>
-    requires { store.now.model ≡ Instants }
-    ensures { OnOk result (out.new ≡ out.old ++ rows_text (degree_block (base_of store.now) line)) }
-{
-    let rows = degrees(alloc, store)?;
-    add_query(out, line)?;
-    add_world(out, store.bounds(), rows.len())?;
-    add_degrees(out, store, &rows)
-}
-
-// Adds the block of a line, and says whether its query was not refused.
-fn add_line(
+// Adds the part of a world for a question for degrees.
+fn add_degree_part<V: View, L: Ledger>(
     alloc: Global,
     out: &mut RowWriter,
-    store: &Store,
-    number: u64,
-    line: &[u8],
-) -> Result<bool, Memory>
-    requires { store.now.model ≡ Instants }
-    ensures rows { OnOk result (out.new ≡ out.old ++ rows_text (line_block (base_of store.now) number line.now)) }
-    ensures clean { IfOk result (λ clean. clean ≡ is_clean_line line.now) }
-{
-    if has_only_spaces(line) {
-        return Ok(true);
-    }
-    if is_degree_query(line) {
-        add_answer(alloc, out, store, number)?;
-        return Ok(true);
-    }
-    add_refused_query(out, number)?;
-    Ok(false)
-}
-
-// Adds the blocks of a script, and says whether no query was refused.
-fn add_lines(
-    alloc: Global,
-    out: &mut RowWriter,
-    store: &Store,
-    script: &[u8],
-) -> Result<bool, Memory>
-    requires { store.now.model ≡ Instants }
-    ensures rows { OnOk result (out.new ≡ out.old ++ rows_text (line_blocks (base_of store.now) 1 (lines_of script.now))) }
-    ensures clean { IfOk result (λ clean. clean ≡ list_all is_clean_line (lines_of script.now)) }
-{
-    let mut rest = script;
-    let mut number = 1u64;
-    let mut clean = true;
-    while !rest.is_empty() {
-        let (line, behind) = first_line(rest);
-        let line_clean = add_line(alloc, out, store, number, line)?;
-        clean = clean && line_clean;
-        rest = behind;
-        number += 1;
-    }
-    Ok(clean)
-}
-
-/// An output, and whether no record and no query was refused.
-#[derive(Drop)]
-pub struct Answer {
-    pub text: Vec<u8>,
-    pub clean: bool,
-}
-
-// The output for what was read of an events file, and a script.
-fn answer_read(alloc: Global, read: &FileReading, script: &[u8]) -> Result<Answer, Memory>
-    requires { read.now.store.model ≡ Instants }
-    ensures text { IfOk result (λ answer. answer.text.items ≡ output_text read.now script.now) }
-    ensures clean { IfOk result (λ answer. answer.clean ≡ ((length (told read.now).refused == 0) && list_all is_clean_line (lines_of script.now))) }
-{
-    let mut out = RowWriter::new(alloc);
-    add_all_refused(&mut out, read.refused.as_slice())?;
-    add_graph(
-        &mut out,
-        read.store.bounds(),
-        read.store.events(),
-        read.refused.len(),
-    )?;
-    let lines_clean = add_lines(alloc, &mut out, &read.store, script)?;
-    let clean = read.refused.is_empty() && lines_clean;
-    let text = out.into_text()?;
-    Ok(Answer { text, clean })
-}
-
-/// The output for an events file and a script.
-#[tactic(auto, unfolding(graph_model::specs::Output::IsOutput, graph_model::specs::Output::is_clean))]
-pub fn answer_files<L: Ledger>(
-    alloc: Global,
-    events: &[u8],
-    script: &[u8],
+    view: &V,
     steps: &mut Steps<L>,
-) -> Result<Answer, Memory>
-    ensures text { IfOk result (λ answer. IsOutput Instants events.now script.now answer.text.items) }
-    ensures clean { IfOk result (λ answer. answer.clean ≡ is_clean Instants events.now script.now) }
-    ensures cost { steps.new ≤ steps.old + most_steps (length (reading Instants events.now).accepted) }
+) -> Result<(), Memory>
+    ensures rows { OnOk result (out.new ≡ out.old ++ rows_text (part_rows Ask.Degree (V.world view.now))) }
+    ensures cost { IsTrue (is_counted_ask (V.world view.now).model Ask.Degree) → steps.new ≤ steps.old + ask_steps (V.searches view.now) (size_of (V.contents view.now)) Ask.Degree }
 {
-    let read = read_events(alloc, Model::Event, events, steps)?;
-    answer_read(alloc, &read, script)
+    let rows = degrees(alloc, view, steps)?;
+    add_world(out, view.bounds(), rows.len())?;
+    add_degrees(out, view.store(), &rows)
+}
+
+// Adds the part of a view's world: its row, and the rows that answer a question about it.
+fn add_part<V: View, L: Ledger>(
+    alloc: Global,
+    out: &mut RowWriter,
+    view: &V,
+    ask: &Ask,
+    steps: &mut Steps<L>,
+) -> Result<(), Memory>
+    requires { is_answered_ask ask.now ≡ true }
+    ensures rows { OnOk result (out.new ≡ out.old ++ rows_text (part_rows ask.now (V.world view.now))) }
+    ensures cost { IsTrue (is_counted_ask (V.world view.now).model ask.now) → steps.new ≤ steps.old + ask_steps (V.searches view.now) (size_of (V.contents view.now)) ask.now }
+{
+    match ask {
+        Ask::Degree => add_degree_part(alloc, out, view, steps),
+        _ => unreachable!(),
+    }
+}
+
+// Adds the part of the world of all that a store has accepted.
+fn add_base_part<L: Ledger>(
+    alloc: Global,
+    out: &mut RowWriter,
+    store: &Store,
+    ask: &Ask,
+    steps: &mut Steps<L>,
+) -> Result<(), Memory>
+    requires { is_answered_ask ask.now ≡ true }
+    ensures rows { OnOk result (out.new ≡ out.old ++ rows_text (part_rows ask.now (base_of store.now))) }
+    ensures cost { IsTrue (is_counted_ask store.now.model ask.now) → steps.new ≤ steps.old + ask_steps (fused_searches []) (size_of store.now) ask.now }
+{
+    if let Some(graph) = EventGraph::over(store) {
+        return add_part(alloc, out, &graph, ask, steps);
+    }
+    match PersistentGraph::over(store) {
+        Some(graph) => add_part(alloc, out, &graph, ask, steps),
+        None => unreachable!(),
+    }
+}
+
+/// Adds the block of a query: its row, and the part of each world that it asks about.
+///
+/// # Errors
+/// `Unbuilt` where the query is not answered yet, and then nothing was added. Want of memory loses the whole text.
+pub fn answer_query<L: Ledger>(
+    alloc: Global,
+    store: &Store,
+    query: &Query,
+    line: u64,
+    out: &mut RowWriter,
+    steps: &mut Steps<L>,
+) -> Result<(), AnswerFault>
+    ensures rows { OnOk result (out.new ≡ out.old ++ rows_text (answer_block (base_of store.now) line query.now)) }
+    ensures answered { OnOk result (is_answered query.now ≡ true) }
+    ensures unbuilt { IsErrOf result AnswerFault.Unbuilt → is_answered query.now ≡ false }
+    ensures unchanged { IsErrOf result AnswerFault.Unbuilt → out.new ≡ out.old }
+    ensures unread { is_answered query.now ≡ false → steps.new ≡ steps.old }
+    ensures cost { IsTrue (is_counted_query store.now.model query.now) → steps.new ≤ steps.old + query_steps (size_of store.now) query.now }
+{
+    if !answers(query) {
+        return Err(AnswerFault::Unbuilt);
+    }
+    add_query(out, line, &query.ask, 1)?;
+    add_base_part(alloc, out, store, &query.ask, steps)?;
+    Ok(())
 }

@@ -1,20 +1,20 @@
 //! Laws of the output. The functions do nothing: their contracts are the laws.
 ghost use Rattle.std.specs.Prelude.{◌≡◌, ◌↔◌, ℕ, List, Some};
 ghost use Rattle.graph_model.specs.declared.events.Model.{Model};
-ghost use Rattle.graph_model.specs.declared.events.Model.TheVariants.{Event as Instants};
 ghost use Rattle.graph_model.specs.Command.{Files, command};
 ghost use Rattle.graph_model.specs.Output.{IsOutput};
+ghost use Rattle.query_run.specs.Answered.{is_answered};
 ghost use Rattle.query_run.specs.Commands.{NamesFiles};
 
 /// There is exactly one output for an events file and a script.
 pub fn outputs_are_one()
-    ensures some { (model : Model) (events script : List ℕ) → (text : List ℕ) × IsOutput model events script text }
-    ensures one { (model : Model) (events script text other : List ℕ) → IsOutput model events script text → IsOutput model events script other → text ≡ other }
+    ensures some { (model : Model) (events script : List ℕ) → (text : List ℕ) × IsOutput is_answered model events script text }
+    ensures one { (model : Model) (events script text other : List ℕ) → IsOutput is_answered model events script text → IsOutput is_answered model events script other → text ≡ other }
 {}
 
 /// Words are the command to answer a script on an events file exactly where they are six, of which three are the options
-/// at even places, each with its value behind it: the model `event` and two paths. So each option stands once, and no
+/// at even places, each with its value behind it: the word of a model and two paths. So each option stands once, and no
 /// other word is there.
 pub fn commands_name_their_files()
-    ensures { (words : List (List ℕ)) (events script : List ℕ) → (command words ≡ Some (Files Instants events script)) ↔ NamesFiles words events script }
+    ensures { (words : List (List ℕ)) (model : Model) (events script : List ℕ) → (command words ≡ Some (Files model events script)) ↔ NamesFiles words model events script }
 {}

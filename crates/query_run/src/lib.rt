@@ -2,9 +2,12 @@
 #![tactic(auto)]
 
 mod answer;
+mod answered;
 mod causes;
 mod laws;
 mod lines;
+mod output;
+mod query_causes;
 mod reading;
 mod rows;
 mod top;

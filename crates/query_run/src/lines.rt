@@ -1,9 +1,7 @@
 // The lines of a script.
 ghost use Rattle.std.specs.Prelude.{◌≡◌, ◌∷◌, ◌<◌, ◌≤◌, ◌==◌, position, length};
 ghost use Rattle.std.specs.List.{position_or_len};
-ghost use Rattle.graph_model.specs.Script.{asks_degrees, is_blank, is_space, lines_of, without_spaces};
-
-const DEGREE_QUERY: &[u8] = b"{\"ask\":[\"degree\"]}";
+ghost use Rattle.graph_model.specs.Script.{is_blank, is_space, lines_of};
 
 fn is_a_space(byte: u8) -> bool
     ensures { result ≡ is_space byte }
@@ -47,25 +45,4 @@ pub fn has_only_spaces(line: &[u8]) -> bool
     ensures { result ≡ is_blank line.now }
 {
     line.iter().all(|byte| is_a_space(*byte))
-}
-
-fn skip_spaces(line: &[u8]) -> &[u8]
-    ensures { result.now ≡ without_spaces line.now }
-{
-    let mut rest = line;
-    while let [byte, after @ ..] = rest {
-        if !is_a_space(*byte) {
-            break;
-        }
-        rest = after;
-    }
-    rest
-}
-
-/// Whether a line asks for degrees.
-pub fn is_degree_query(line: &[u8]) -> bool
-    ensures { result ≡ asks_degrees line.now }
-{
-    let text = skip_spaces(line);
-    text.starts_with(DEGREE_QUERY) && has_only_spaces(text.split_at(DEGREE_QUERY.len()).1)
 }

@@ -1,35 +1,64 @@
 // Rows of text.
 ghost use Rattle.std.specs.Prelude.{◌≡◌, ◌++◌, ◌<◌, length, map, OnOk};
 ghost use Rattle.csv.specs.Writing.{default_writer, row_text};
-ghost use Rattle.graph_model.specs.declared.events.Model.TheVariants.{Event as Instants};
-ghost use Rattle.graph_model.specs.declared.queries.Ask.TheVariants.{Degree as AskDegree};
-ghost use Rattle.graph_model.specs.Script.{Unbuilt as QueryUnbuilt};
 ghost use Rattle.graph_model.specs.Answer.{row_fields};
-ghost use Rattle.graph_model.specs.Output.{graph_row, query_row, refused_query_row, refused_row, world_row};
+ghost use Rattle.graph_model.specs.Output.{ask_word as word_of_ask, graph_row, model_word as word_of_model, query_row, refused_query_row, refused_row, world_row};
 ghost use Rattle.walk_algorithms.specs.Degrees.{degree_row_of};
+ghost use Rattle.query_run.specs.Causes.{query_refusal_of};
 ghost use Rattle.query_run.specs.Told.{refused_of};
 
 use crate::causes::word;
+use crate::query_causes::{QueryCause, query_word};
 use crate::reading::RefusedRecord;
 use event_rows::RowWriter;
-use graph_model::{Bounds, Memory};
+use graph_model::{Ask, Bounds, Memory, Model};
 use graph_store::Store;
 use itoa::Buffer;
 use walk_algorithms::Degree;
 
 const REFUSED: &[u8] = b"refused";
 
-const UNBUILT: &[u8] = b"unbuilt";
-
 const GRAPH: &[u8] = b"graph";
-
-const EVENT: &[u8] = b"event";
 
 const QUERY: &[u8] = b"query";
 
-const DEGREE: &[u8] = b"degree";
-
 const WORLD: &[u8] = b"world";
+
+/// The word for a model.
+pub fn model_word(model: Model) -> &'static [u8]
+    ensures { result.now ≡ word_of_model model }
+{
+    match model {
+        Model::Event => b"event",
+        Model::Persistent => b"persistent",
+    }
+}
+
+/// The word for a question.
+pub fn ask_word(ask: &Ask) -> &'static [u8]
+    ensures { result.now ≡ word_of_ask ask.now }
+{
+    match ask {
+        Ask::Nodes => b"nodes",
+        Ask::Edges => b"edges",
+        Ask::Events => b"events",
+        Ask::Degree => b"degree",
+        Ask::Hops(..) => b"hops",
+        Ask::Weak => b"weak",
+        Ask::OutComponent(_) => b"out_component",
+        Ask::InComponent(_) => b"in_component",
+        Ask::Core(_) => b"core",
+        Ask::CoreNumbers => b"core_numbers",
+        Ask::Arrival(..) => b"arrival",
+        Ask::NodeHistory(_) => b"node_history",
+        Ask::EdgeHistory(_) => b"edge_history",
+        Ask::NodeValue(..) => b"node_value",
+        Ask::EdgeValue(..) => b"edge_value",
+        Ask::EdgeAlive(..) => b"edge_alive",
+        Ask::Materialise => b"materialise",
+        Ask::Updates => b"updates",
+    }
+}
 
 /// Adds the row of a refused record.
 pub fn add_refused(out: &mut RowWriter, refusal: RefusedRecord) -> Result<(), Memory>
@@ -42,18 +71,19 @@ pub fn add_refused(out: &mut RowWriter, refusal: RefusedRecord) -> Result<(), Me
     ])
 }
 
-/// Adds the row of an event graph with these bounds, and so many events and refused records.
+/// Adds the row of a graph of a model with these bounds, and so many events and refused records.
 pub fn add_graph(
     out: &mut RowWriter,
+    model: Model,
     bounds: Bounds,
     events: u32,
     refused: usize,
 ) -> Result<(), Memory>
-    ensures { OnOk result (out.new ≡ out.old ++ row_text default_writer (graph_row Instants bounds events refused)) }
+    ensures { OnOk result (out.new ≡ out.old ++ row_text default_writer (graph_row model bounds events refused)) }
 {
     out.add_fields(&[
         GRAPH,
-        EVENT,
+        model_word(model),
         Buffer::new().format(bounds.lo()).as_bytes(),
         Buffer::new().format(bounds.hi()).as_bytes(),
         Buffer::new().format(events).as_bytes(),
@@ -61,27 +91,27 @@ pub fn add_graph(
     ])
 }
 
-/// Adds the row of a query for degrees.
-pub fn add_query(out: &mut RowWriter, line: u64) -> Result<(), Memory>
-    ensures { OnOk result (out.new ≡ out.old ++ row_text default_writer (query_row line AskDegree 1)) }
+/// Adds the row of a query that is answered on so many worlds.
+pub fn add_query(out: &mut RowWriter, line: u64, ask: &Ask, worlds: u32) -> Result<(), Memory>
+    ensures { OnOk result (out.new ≡ out.old ++ row_text default_writer (query_row line ask.now worlds)) }
 {
     out.add_fields(&[
         QUERY,
         Buffer::new().format(line).as_bytes(),
-        DEGREE,
-        Buffer::new().format(1u8).as_bytes(),
+        ask_word(ask),
+        Buffer::new().format(worlds).as_bytes(),
     ])
 }
 
 /// Adds the row of a refused query.
-pub fn add_refused_query(out: &mut RowWriter, line: u64) -> Result<(), Memory>
-    ensures { OnOk result (out.new ≡ out.old ++ row_text default_writer (refused_query_row line QueryUnbuilt)) }
+pub fn add_refused_query(out: &mut RowWriter, line: u64, cause: QueryCause) -> Result<(), Memory>
+    ensures { OnOk result (out.new ≡ out.old ++ row_text default_writer (refused_query_row line (query_refusal_of cause))) }
 {
     out.add_fields(&[
         QUERY,
         Buffer::new().format(line).as_bytes(),
         REFUSED,
-        UNBUILT,
+        query_word(cause),
     ])
 }
 

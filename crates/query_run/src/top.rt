@@ -5,7 +5,7 @@ ghost use Rattle.graph_model.specs.Command.{command};
 ghost use Rattle.outside_io.specs.Outside.{Rises};
 ghost use Rattle.query_run.specs.Runs.{HasEvents, IsAmiss, IsAnswered, IsCounted, IsOver, IsTooLong, IsWriting, Misses, Writes};
 
-use crate::answer::answer_files;
+use crate::output::answer_files;
 use crate::words::read_words;
 use graph_model::Words;
 use outside_io::{Inputs, Output, ReadFault, Sink, read_all, write_all};
@@ -88,7 +88,8 @@ pub fn run<I: Inputs, O: Sink, L: Ledger>(
         ⊎ (IsOver Which.Events (I.begun inputs.old) (I.begun inputs.new) (I.given inputs.new)
         ⊎ IsOver Which.Script (I.begun inputs.old) (I.begun inputs.new) (I.given inputs.new))))) }
 
-    // Stored times are read no more often than the events ask for, and never where the words are no command.
+    // Stored times are read no more often than the events and the queries ask for, where each answered query is counted,
+    // and never where the words are no command.
     ensures steps { IsCounted (command words.now) (I.files inputs.old) steps.old steps.new }
 {
     let Some(command) = read_words(words) else {
@@ -106,7 +107,13 @@ pub fn run<I: Inputs, O: Sink, L: Ledger>(
         Err(ReadFault::TooLong) => return Status::TooLong(Which::Script),
         Err(ReadFault::Memory) => return Status::Memory,
     };
-    let Ok(answer) = answer_files(alloc, events.as_slice(), script.as_slice(), steps) else {
+    let Ok(answer) = answer_files(
+        alloc,
+        command.model,
+        events.as_slice(),
+        script.as_slice(),
+        steps,
+    ) else {
         return Status::Memory;
     };
     match write_all(sink, answer.text.as_slice()) {

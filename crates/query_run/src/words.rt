@@ -1,13 +1,13 @@
 // The words of a command line.
 ghost use Rattle.std.specs.Prelude.{◌≡◌, None, MatchOption, Some, length};
-ghost use Rattle.graph_model.specs.declared.events.Model.TheVariants.{Event as Instants};
-ghost use Rattle.graph_model.specs.Command.{Files, command, is_path, value_of};
+ghost use Rattle.graph_model.specs.Command.{Files, command, is_path, model_of, value_of};
 
-use graph_model::Words;
+use graph_model::{Model, Words};
 
-/// The command to answer a script on the events file of an event graph, by the paths of both files.
+/// The command to answer a script on an events file, under a model, by the paths of both files.
 #[derive(Clone, Copy)]
 pub struct Command<'w> {
+    pub model: Model,
     pub events: &'w str,
     pub script: &'w str,
 }
@@ -34,9 +34,22 @@ fn is_a_path(word: &str) -> bool
     }
 }
 
+// The model that a word names.
+fn model(word: &str) -> Option<Model>
+    ensures { result ≡ model_of word.now }
+{
+    if word == "event" {
+        return Some(Model::Event);
+    }
+    if word == "persistent" {
+        return Some(Model::Persistent);
+    }
+    None
+}
+
 /// The command that the words are.
 pub fn read_words(words: &Words) -> Option<Command<'_>>
-    ensures { MatchOption result (command words.now ≡ None) (λ c. command words.now ≡ Some (Files Instants c.events.now c.script.now)) }
+    ensures { MatchOption result (command words.now ≡ None) (λ c. command words.now ≡ Some (Files c.model c.events.now c.script.now)) }
 {
     if words.len() != 6 {
         return None;
@@ -46,8 +59,10 @@ pub fn read_words(words: &Words) -> Option<Command<'_>>
     if !is_a_path(events) || !is_a_path(script) {
         return None;
     }
-    if value(words, "--model") != "event" {
-        return None;
-    }
-    Some(Command { events, script })
+    let model = model(value(words, "--model"))?;
+    Some(Command {
+        model,
+        events,
+        script,
+    })
 }

@@ -1,4 +1,4 @@
-// Whole runs over memory, on three edges and a question for their degrees.
+// Whole runs over memory: three edges and a question for their degrees, and an edge that is deleted as it is added.
 ghost use Rattle.std.specs.Prelude.{◌≡◌, ◌<◌};
 
 use graph_model::Words;
@@ -17,9 +17,15 @@ const SCRIPT: &[u8] = b"{\"ask\":[\"degree\"]}\n";
 const OUTPUT: &[u8] =
     b"graph,event,-4611686018427387904,4611686018427387904,3,0\nquery,1,degree,1\nworld,-4611686018427387904,4611686018427387904,3\na,0,2,2\nb,1,1,2\nc,2,0,2\n";
 
-fn words(alloc: Global, events: &str) -> Result<Words, AllocError> {
+// Two edges, of which one is deleted at the moment of its addition.
+const DELETED: &[u8] = b"edge,1,a,b,l\ndelete,1,a,b,l\nedge,2,c,d,l\n";
+
+const LASTING: &[u8] =
+    b"graph,persistent,-4611686018427387904,4611686018427387904,3,0\nquery,1,degree,1\nworld,-4611686018427387904,4611686018427387904,2\nc,0,1,1\nd,1,0,1\n";
+
+fn words(alloc: Global, model: &str, events: &str) -> Result<Words, AllocError> {
     let mut words = Words::new(alloc);
-    for word in ["--script", "s", "--model", "event", "--events", events] {
+    for word in ["--script", "s", "--model", model, "--events", events] {
         words.push(word)?;
     }
     Ok(words)
@@ -34,6 +40,7 @@ fn failing(alloc: Global, call: u64) -> Result<Calls, AllocError> {
 fn files(alloc: Global) -> Result<Files, AllocError> {
     let mut files = Files::new(alloc);
     files.push(FileItem::new(alloc, "e", EVENTS)?)?;
+    files.push(FileItem::new(alloc, "d", DELETED)?)?;
     files.push(FileItem::new(alloc, "s", SCRIPT)?)?;
     Ok(files)
 }
@@ -55,6 +62,7 @@ fn run_once<L: Ledger>(
 // What a run says and writes, where the inputs give ten bytes at a time, the sink takes sixteen, and call 0 is none.
 fn outcome(
     alloc: Global,
+    model: &str,
     events: &str,
     read_fails: u64,
     write_fails: u64,
@@ -63,7 +71,7 @@ fn outcome(
     let mut sink = MemorySink::new(alloc, failing(alloc, write_fails)?, 16);
     let status = run_once::<Brand>(
         alloc,
-        &words(alloc, events)?,
+        &words(alloc, model, events)?,
         &mut inputs,
         &mut sink,
         Blank::new(1),
@@ -81,12 +89,12 @@ fn faults_at_each_call(rt: HostRuntime) -> Result<(), Fail> {
         ("e", 3, 0, Status::InputFault(Which::Events), 0),
         ("e", 0, 3, Status::OutputFault, 32),
     ] {
-        let (said, text) = outcome(rt.alloc(), events, read_fails, write_fails)?;
+        let (said, text) = outcome(rt.alloc(), "event", events, read_fails, write_fails)?;
         assert_eq!(rt; said, status);
         assert_eq!(rt; Some(text.as_slice()), OUTPUT.get(..written));
     }
     for call in 1u64..12 {
-        let (said, text) = outcome(rt.alloc(), "e", call, 0)?;
+        let (said, text) = outcome(rt.alloc(), "event", "e", call, 0)?;
         let status = match call {
             1..=6 => Status::InputFault(Which::Events),
             7..=10 => Status::InputFault(Which::Script),
@@ -96,7 +104,7 @@ fn faults_at_each_call(rt: HostRuntime) -> Result<(), Fail> {
         assert_eq!(rt; text.is_empty(), call <= 10);
     }
     for call in 1usize..12 {
-        let (said, text) = outcome(rt.alloc(), "e", 0, call as u64)?;
+        let (said, text) = outcome(rt.alloc(), "event", "e", 0, call as u64)?;
         let status = if call <= 10 {
             Status::OutputFault
         } else {
@@ -110,5 +118,13 @@ fn faults_at_each_call(rt: HostRuntime) -> Result<(), Fail> {
         };
         assert_eq!(rt; Some(text.as_slice()), OUTPUT.get(..front));
     }
+    Ok(())
+}
+
+#[test]
+fn deleted_edge_is_not_present(rt: HostRuntime) -> Result<(), Fail> {
+    let (said, text) = outcome(rt.alloc(), "persistent", "d", 0, 0)?;
+    assert_eq!(rt; said, Status::Done);
+    assert_eq!(rt; text.as_slice(), LASTING);
     Ok(())
 }
