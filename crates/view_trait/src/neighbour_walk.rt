@@ -3,7 +3,6 @@ ghost use Rattle.std.specs.Prelude.{◌≡◌, ◌<◌, length};
 ghost use Rattle.graph_model.specs.declared.queries.Direction.TheVariants.{Outward};
 ghost use Rattle.graph_model.specs.Neighbours.{leads};
 ghost use Rattle.graph_store.specs.Contents.{name_at};
-ghost use Rattle.graph_store.specs.Ends.{ends_at};
 ghost use Rattle.view_trait.specs.Present.{AreNeighbours, is_new_start, out_left, into_left, ArePairs, IsNext};
 
 use crate::presence::pair_present;

@@ -1,5 +1,5 @@
 //! Finding the numbers of the names that views give.
-ghost use Rattle.std.specs.Prelude.{◌≡◌, ℕ, ◌<◌, List, [], true, length, map, IfOk};
+ghost use Rattle.std.specs.Prelude.{◌≡◌, ℕ, ◌<◌, List, true, length, map, IfOk};
 ghost use Rattle.std.specs.List.{list_all};
 ghost use Rattle.graph_model.specs.Keep.{has_type};
 ghost use Rattle.graph_model.specs.Range.{op_in_range};
