@@ -20,7 +20,12 @@ pub struct EdgeFilter<'k, V> {
 }
 
 /// The edges whose value of this key compares true.
-pub fn edges_where<'k, V>(inner: V, key: Option<u32>, cmp: Cmp, value: &'k Value) -> EdgeFilter<'k, V>
+pub fn edges_where<'k, V>(
+    inner: V,
+    key: Option<u32>,
+    cmp: Cmp,
+    value: &'k Value,
+) -> EdgeFilter<'k, V>
     ensures inner { result.inner ≡ inner }
     ensures key { result.key ≡ key }
     ensures cmp { result.cmp ≡ cmp }
@@ -66,7 +71,14 @@ impl<V: View> View for EdgeFilter<'_, V> {
         let store = self.inner.store();
         let history = store.edge_history(e);
         let span = self.inner.edge_span(e, steps);
-        if key_compares(history, span, store.edge_keys(), self.key, self.cmp, self.value) {
+        if key_compares(
+            history,
+            span,
+            store.edge_keys(),
+            self.key,
+            self.cmp,
+            self.value,
+        ) {
             span
         } else {
             nothing()

@@ -25,7 +25,12 @@ pub struct NodeFilter<'k, V> {
 }
 
 /// The nodes whose value of this key compares true, and the edges between them.
-pub fn nodes_where<'k, V>(inner: V, key: Option<u32>, cmp: Cmp, value: &'k Value) -> NodeFilter<'k, V>
+pub fn nodes_where<'k, V>(
+    inner: V,
+    key: Option<u32>,
+    cmp: Cmp,
+    value: &'k Value,
+) -> NodeFilter<'k, V>
     ensures inner { result.inner ≡ inner }
     ensures key { result.key ≡ key }
     ensures cmp { result.cmp ≡ cmp }
@@ -106,7 +111,14 @@ impl<V: View> View for NodeFilter<'_, V> {
         let store = self.inner.store();
         let history = store.node_history(n);
         let span = self.inner.node_span(n, steps);
-        if key_compares(history, span, store.node_keys(), self.key, self.cmp, self.value) {
+        if key_compares(
+            history,
+            span,
+            store.node_keys(),
+            self.key,
+            self.cmp,
+            self.value,
+        ) {
             span
         } else {
             nothing()

@@ -99,7 +99,15 @@ impl<V: View> View for WindowView<V> {
         let store = self.inner.store();
         let history = store.node_history(n);
         let span = self.inner.node_span(n, steps);
-        window_span(history, span, bounds, store.model(), self.from, self.to, steps)
+        window_span(
+            history,
+            span,
+            bounds,
+            store.model(),
+            self.from,
+            self.to,
+            steps,
+        )
     }
 
     fn edge_span<L: Ledger>(&self, e: EdgeId, steps: &mut Steps<L>) -> Span {
@@ -107,6 +115,14 @@ impl<V: View> View for WindowView<V> {
         let store = self.inner.store();
         let history = store.edge_history(e);
         let span = self.inner.edge_span(e, steps);
-        window_span(history, span, bounds, store.model(), self.from, self.to, steps)
+        window_span(
+            history,
+            span,
+            bounds,
+            store.model(),
+            self.from,
+            self.to,
+            steps,
+        )
     }
 }
