@@ -74,23 +74,64 @@ fn has_one_neighbour<V: View, L: Ledger>(
     assert_eq!(rt; walk.next(steps), None);
 }
 
-fn nests<L: Ledger>(rt: &impl Abort, alloc: Global, steps: &mut Steps<L>) -> Result<(), Fail> {
-    let store = two_layers(alloc, steps).ok_or("the events are accepted")?;
-    let a = Name::new(alloc, "a").ok().and_then(|name| store.node_of(&name)).ok_or("the node a")?;
-    let b = Name::new(alloc, "b").ok().and_then(|name| store.node_of(&name)).ok_or("the node b")?;
-    let c = Name::new(alloc, "c").ok().and_then(|name| store.node_of(&name)).ok_or("the node c")?;
-    let x = Name::new(alloc, "x").ok().and_then(|name| store.layer_of(&name)).ok_or("the layer x")?;
-    assert!(rt; x < 64);
-    let bits = 1 << x;
-    let mut dropped = NodeList::new(alloc);
-    dropped.push(a)?;
-    let graph = EventGraph::over(&store).ok_or("the store is of the event model")?;
-    let outer = window(&graph, 0, 9);
+/// The number of a node.
+fn node(alloc: Global, store: &Store, name: &str) -> Option<NodeId> {
+    let name = Name::new(alloc, name).ok()?;
+    store.node_of(&name)
+}
+
+/// The bit of a layer.
+fn bit(alloc: Global, store: &Store, name: &str) -> Option<u64> {
+    let name = Name::new(alloc, name).ok()?;
+    let layer = store.layer_of(&name)?;
+    if layer < 64 { Some(1 << layer) } else { None }
+}
+
+/// Two windows, a layer and a dropped node, each view over a reference to the one before.
+fn over_references<L: Ledger>(
+    rt: &impl Abort,
+    graph: &EventGraph<'_>,
+    bits: u64,
+    dropped: &NodeList,
+    b: NodeId,
+    c: NodeId,
+    steps: &mut Steps<L>,
+) {
+    let outer = window(graph, 0, 9);
     let inner = window(&outer, 2, 9);
     let kept = layers(&inner, bits);
-    has_one_neighbour(rt, &exclude_nodes(&kept, &dropped), b, c, steps);
-    let whole = exclude_nodes(layers(window(window(graph, 0, 9), 2, 9), bits), &dropped);
-    has_one_neighbour(rt, &whole, b, c, steps);
+    has_one_neighbour(rt, &exclude_nodes(&kept, dropped), b, c, steps);
+}
+
+/// The same, each view around the one before.
+fn by_value<L: Ledger>(
+    rt: &impl Abort,
+    graph: EventGraph<'_>,
+    bits: u64,
+    dropped: &NodeList,
+    b: NodeId,
+    c: NodeId,
+    steps: &mut Steps<L>,
+) {
+    let nest = exclude_nodes(layers(window(window(graph, 0, 9), 2, 9), bits), dropped);
+    has_one_neighbour(rt, &nest, b, c, steps);
+}
+
+fn nests<L: Ledger>(
+    rt: &impl Abort,
+    alloc: Global,
+    store: &Store,
+    steps: &mut Steps<L>,
+) -> Result<(), Fail> {
+    let a = node(alloc, store, "a").ok_or("the node a")?;
+    let b = node(alloc, store, "b").ok_or("the node b")?;
+    let c = node(alloc, store, "c").ok_or("the node c")?;
+    let bits = bit(alloc, store, "x").ok_or("the layer x")?;
+    let mut dropped = NodeList::new(alloc);
+    dropped.push(a)?;
+    let graph = EventGraph::over(store).ok_or("the store is of the event model")?;
+    over_references(rt, &graph, bits, &dropped, b, c, steps);
+    by_value(rt, graph, bits, &dropped, b, c, steps);
     Ok(())
 }
 
@@ -102,18 +143,27 @@ fn first_present<V: View, L: Ledger>(view: &V, steps: &mut Steps<L>) -> Option<b
     Some(edge_present(view, EdgeId(0), steps))
 }
 
-fn deletions<L: Ledger>(rt: &impl Abort, alloc: Global, steps: &mut Steps<L>) -> Result<(), Fail> {
-    let store = deleted_edge(alloc, steps).ok_or("the events are accepted")?;
-    assert!(rt; EventGraph::over(&store).is_none());
-    let graph = PersistentGraph::over(&store).ok_or("the store is of the persistent model")?;
-    assert_eq!(rt; first_present(&at(&graph, 4), steps), Some(true));
-    assert_eq!(rt; first_present(&at(&graph, 5), steps), Some(false));
-    assert_eq!(rt; first_present(&window(&graph, 5, 9), steps), Some(false));
-    assert_eq!(rt; first_present(&at(&graph, 9), steps), Some(true));
-    let beyond = window(window(&graph, 0, 5), 7, 9);
+/// The edge is present from its addition up to its deletion, and from its second addition on.
+fn four_windows<L: Ledger>(rt: &impl Abort, graph: &PersistentGraph<'_>, steps: &mut Steps<L>) {
+    assert_eq!(rt; first_present(&at(graph, 4), steps), Some(true));
+    assert_eq!(rt; first_present(&at(graph, 5), steps), Some(false));
+    assert_eq!(rt; first_present(&window(graph, 5, 9), steps), Some(false));
+    assert_eq!(rt; first_present(&at(graph, 9), steps), Some(true));
+}
+
+/// A window beyond the window that it stands on has no moment and no edge.
+fn beyond<L: Ledger>(rt: &impl Abort, graph: PersistentGraph<'_>, steps: &mut Steps<L>) {
+    let beyond = window(window(graph, 0, 5), 7, 9);
     assert_eq!(rt; beyond.bounds().lo(), 7);
     assert_eq!(rt; beyond.bounds().hi(), 7);
     assert_eq!(rt; first_present(&beyond, steps), Some(false));
+}
+
+fn deletions<L: Ledger>(rt: &impl Abort, store: &Store, steps: &mut Steps<L>) -> Result<(), Fail> {
+    assert!(rt; EventGraph::over(store).is_none());
+    let graph = PersistentGraph::over(store).ok_or("the store is of the persistent model")?;
+    four_windows(rt, &graph, steps);
+    beyond(rt, graph, steps);
     Ok(())
 }
 
@@ -123,8 +173,10 @@ fn all_nests<L: Ledger>(rt: &impl Abort, alloc: Global, blank: Blank) -> Result<
     requires one { blank.parts ≡ 1 }
 {
     let mut steps = Steps::<L>::new(blank);
-    nests(rt, alloc, &mut steps)?;
-    deletions(rt, alloc, &mut steps)
+    let layered = two_layers(alloc, &mut steps).ok_or("the events are accepted")?;
+    nests(rt, alloc, &layered, &mut steps)?;
+    let deleted = deleted_edge(alloc, &mut steps).ok_or("the events are accepted")?;
+    deletions(rt, &deleted, &mut steps)
 }
 
 #[test]
