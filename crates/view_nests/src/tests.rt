@@ -14,50 +14,62 @@ use time_column::Steps;
 use view_trait::{NodeList, View, edge_present, neighbours};
 use window_view::{at, window};
 
-/// The name of an edge.
-fn edge(alloc: Global, src: &str, dst: &str, layer: &str) -> Option<EdgeName> {
-    Some(EdgeName {
-        src: Name::new(alloc, src).ok()?,
-        dst: Name::new(alloc, dst).ok()?,
-        layer: Name::new(alloc, layer).ok()?,
+/// What happens to an edge.
+#[derive(Clone, Copy)]
+enum Change {
+    Add,
+    Delete,
+}
+
+/// An event at a time, of an edge by the names of its source, its destination and its layer.
+#[derive(Clone, Copy)]
+struct Row<'r> {
+    time: i64,
+    change: Change,
+    src: &'r str,
+    dst: &'r str,
+    layer: &'r str,
+}
+
+/// The event of a row.
+fn event_of(alloc: Global, row: Row<'_>) -> Option<Event> {
+    let edge = EdgeName {
+        src: Name::new(alloc, row.src).ok()?,
+        dst: Name::new(alloc, row.dst).ok()?,
+        layer: Name::new(alloc, row.layer).ok()?,
+    };
+    let what = match row.change {
+        Change::Add => What::Add(edge, Props::new(alloc)),
+        Change::Delete => What::Delete(edge),
+    };
+    Some(Event {
+        time: row.time,
+        order: 0,
+        what,
     })
 }
 
-/// Puts an event into a store.
-fn put<L: Ledger>(store: &mut Store, time: i64, what: What, steps: &mut Steps<L>) -> bool {
-    if !store.bounds().holds(time) {
+/// Puts the event of a row into a store, and says whether it was accepted.
+fn put<L: Ledger>(alloc: Global, store: &mut Store, row: Row<'_>, steps: &mut Steps<L>) -> bool {
+    let Some(event) = event_of(alloc, row) else {
         return false;
-    }
-    let event = Event {
-        time,
-        order: 0,
-        what,
     };
-    store.apply(event, steps).is_ok()
+    store.bounds().holds(event.time) && store.apply(event, steps).is_ok()
 }
 
-/// Two edges from `a` to `b` in layers `x` and `y`, and one from `b` to `c` in layer `x`.
-fn two_layers<L: Ledger>(alloc: Global, steps: &mut Steps<L>) -> Option<Store> {
-    let mut store = Store::new(alloc, Model::Event, Bounds::whole());
-    let first = What::Add(edge(alloc, "a", "b", "x")?, Props::new(alloc));
-    let second = What::Add(edge(alloc, "a", "b", "y")?, Props::new(alloc));
-    let third = What::Add(edge(alloc, "b", "c", "x")?, Props::new(alloc));
-    let whole = put(&mut store, 1, first, steps)
-        && put(&mut store, 2, second, steps)
-        && put(&mut store, 3, third, steps);
-    if whole { Some(store) } else { None }
-}
-
-/// An edge that is added, deleted and added again.
-fn deleted_edge<L: Ledger>(alloc: Global, steps: &mut Steps<L>) -> Option<Store> {
-    let mut store = Store::new(alloc, Model::Persistent, Bounds::whole());
-    let first = What::Add(edge(alloc, "a", "b", "l")?, Props::new(alloc));
-    let second = What::Delete(edge(alloc, "a", "b", "l")?);
-    let third = What::Add(edge(alloc, "a", "b", "l")?, Props::new(alloc));
-    let whole = put(&mut store, 1, first, steps)
-        && put(&mut store, 5, second, steps)
-        && put(&mut store, 9, third, steps);
-    if whole { Some(store) } else { None }
+/// Puts rows into a store, and says whether all were accepted.
+fn put_all<L: Ledger>(
+    alloc: Global,
+    store: &mut Store,
+    rows: &[Row<'_>],
+    steps: &mut Steps<L>,
+) -> bool {
+    for row in rows {
+        if !put(alloc, store, *row, steps) {
+            return false;
+        }
+    }
+    true
 }
 
 /// The node `b` has the neighbour `c` alone.
@@ -117,12 +129,20 @@ fn by_value<L: Ledger>(
     has_one_neighbour(rt, &nest, b, c, steps);
 }
 
+/// Two edges from `a` to `b` in layers `x` and `y`, and one from `b` to `c` in layer `x`.
+const TWO_LAYERS: [Row<'static>; 3] = [
+    Row { time: 1, change: Change::Add, src: "a", dst: "b", layer: "x" },
+    Row { time: 2, change: Change::Add, src: "a", dst: "b", layer: "y" },
+    Row { time: 3, change: Change::Add, src: "b", dst: "c", layer: "x" },
+];
+
 fn nests<L: Ledger>(
     rt: &impl Abort,
     alloc: Global,
-    store: &Store,
+    store: &mut Store,
     steps: &mut Steps<L>,
 ) -> Result<(), Fail> {
+    assert!(rt; put_all(alloc, store, TWO_LAYERS.as_slice(), steps));
     let a = node(alloc, store, "a").ok_or("the node a")?;
     let b = node(alloc, store, "b").ok_or("the node b")?;
     let c = node(alloc, store, "c").ok_or("the node c")?;
@@ -159,7 +179,20 @@ fn beyond<L: Ledger>(rt: &impl Abort, graph: PersistentGraph<'_>, steps: &mut St
     assert_eq!(rt; first_present(&beyond, steps), Some(false));
 }
 
-fn deletions<L: Ledger>(rt: &impl Abort, store: &Store, steps: &mut Steps<L>) -> Result<(), Fail> {
+/// An edge that is added, deleted and added again.
+const DELETED_EDGE: [Row<'static>; 3] = [
+    Row { time: 1, change: Change::Add, src: "a", dst: "b", layer: "l" },
+    Row { time: 5, change: Change::Delete, src: "a", dst: "b", layer: "l" },
+    Row { time: 9, change: Change::Add, src: "a", dst: "b", layer: "l" },
+];
+
+fn deletions<L: Ledger>(
+    rt: &impl Abort,
+    alloc: Global,
+    store: &mut Store,
+    steps: &mut Steps<L>,
+) -> Result<(), Fail> {
+    assert!(rt; put_all(alloc, store, DELETED_EDGE.as_slice(), steps));
     assert!(rt; EventGraph::over(store).is_none());
     let graph = PersistentGraph::over(store).ok_or("the store is of the persistent model")?;
     four_windows(rt, &graph, steps);
@@ -167,19 +200,36 @@ fn deletions<L: Ledger>(rt: &impl Abort, store: &Store, steps: &mut Steps<L>) ->
     Ok(())
 }
 
-fn all_nests<L: Ledger>(rt: &impl Abort, alloc: Global, blank: Blank) -> Result<(), Fail>
+fn nests_of_two_layers<L: Ledger>(rt: &impl Abort, alloc: Global, blank: Blank) -> Result<(), Fail>
     requires name { blank.name ≡ L.name }
     requires parts { blank.parts ≡ L.parts }
     requires one { blank.parts ≡ 1 }
 {
     let mut steps = Steps::<L>::new(blank);
-    let layered = two_layers(alloc, &mut steps).ok_or("the events are accepted")?;
-    nests(rt, alloc, &layered, &mut steps)?;
-    let deleted = deleted_edge(alloc, &mut steps).ok_or("the events are accepted")?;
-    deletions(rt, &deleted, &mut steps)
+    let mut store = Store::new(alloc, Model::Event, Bounds::whole());
+    nests(rt, alloc, &mut store, &mut steps)
+}
+
+fn windows_of_a_deleted_edge<L: Ledger>(
+    rt: &impl Abort,
+    alloc: Global,
+    blank: Blank,
+) -> Result<(), Fail>
+    requires name { blank.name ≡ L.name }
+    requires parts { blank.parts ≡ L.parts }
+    requires one { blank.parts ≡ 1 }
+{
+    let mut steps = Steps::<L>::new(blank);
+    let mut store = Store::new(alloc, Model::Persistent, Bounds::whole());
+    deletions(rt, alloc, &mut store, &mut steps)
 }
 
 #[test]
-fn views_in_views(rt: HostRuntime) -> Result<(), Fail> {
-    all_nests::<Brand>(&rt, rt.alloc(), Blank::new(1))
+fn nests_by_value_and_over_references(rt: HostRuntime) -> Result<(), Fail> {
+    nests_of_two_layers::<Brand>(&rt, rt.alloc(), Blank::new(1))
+}
+
+#[test]
+fn deleted_edge_under_windows(rt: HostRuntime) -> Result<(), Fail> {
+    windows_of_a_deleted_edge::<Brand>(&rt, rt.alloc(), Blank::new(1))
 }
