@@ -16,8 +16,3 @@ mod walks;
 pub use judging::{Count, StoreRefusal};
 pub use store::Store;
 pub use walks::{EdgeId, EdgeWalk, NodeId, PairId, PairWalk};
-
-#[cfg(test)]
-mod tests;
-#[cfg(test)]
-mod type_tests;

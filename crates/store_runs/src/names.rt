@@ -1,0 +1,9 @@
+//! Names of texts.
+use graph_model::Name;
+use std::alloc::Global;
+use std::test::Fail;
+
+/// The name that a text is.
+pub fn name(alloc: Global, text: &str) -> Result<Name, Fail> {
+    Ok(Name::new(alloc, text).ok().ok_or("no name")?)
+}
