@@ -1,14 +1,13 @@
 -- How a list that grows lies in memory.
 use Rattle.std.specs.Prelude.{◌-◌, ◌≤◌, ◌<◌, ◌≡◌, ⊤, [], ◌∷◌, min, vec_len, vec_capacity}
 use Rattle.chunk_list.specs.declared.list.Form.{Form}
-use Rattle.chunk_list.specs.declared.list.Form.TheVariants.{Empty, One, Two, Flat, Long}
+use Rattle.chunk_list.specs.declared.list.Form.TheVariants.{Empty, One, Flat, Long}
 use Rattle.chunk_list.specs.Spaced.{Spaced}
 
 -- the items, and how many more there is room for
 abbrev pub form_view : {T : Type 0} → Form T → Spaced T
-form_view Empty = record { items = []; spare = 2 }
-form_view (One a) = record { items = a ∷ []; spare = 1 }
-form_view (Two a b) = record { items = a ∷ b ∷ []; spare = 0 }
+form_view Empty = record { items = []; spare = 1 }
+form_view (One a) = record { items = a ∷ []; spare = 0 }
 form_view (Flat v) = record { items = v.value.items; spare = min (vec_capacity v.value) 256 - vec_len v.value }
 form_view (Long p) = p.value
 
@@ -16,23 +15,13 @@ form_view (Long p) = p.value
 abbrev pub IsShort : {T : Type 0} → Form T → Type 0
 IsShort Empty = ⊤
 IsShort (One a) = ⊤
-IsShort (Two a b) = ⊤
 IsShort (Flat v) = vec_len v.value ≤ 256
 IsShort (Long p) = ⊤
-
--- the items lie in the list itself
-abbrev pub IsFew : {T : Type 0} → Form T → Type 0
-IsFew Empty = ⊤
-IsFew (One a) = ⊤
-IsFew (Two a b) = ⊤
-IsFew (Flat v) = ⊥
-IsFew (Long p) = ⊥
 
 -- one more item fits in this form
 abbrev pub TakesMore : {T : Type 0} → Form T → Type 0
 TakesMore Empty = ⊤
-TakesMore (One a) = ⊤
-TakesMore (Two a b) = ⊥
+TakesMore (One a) = ⊥
 TakesMore (Flat v) = vec_len v.value < 256
 TakesMore (Long p) = ⊤
 

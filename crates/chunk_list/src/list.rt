@@ -15,14 +15,13 @@ use std::marker::Model;
 enum Form<T: Copy + Default> {
     Empty,
     One(T),
-    Two(T, T),
     /// At most as many as a part takes.
     Flat(Box<Vec<T>>),
     Long(Box<Parts<T>>),
 }
 
 /// A list that takes insertions at any place. A contract sees its items, and how many more it takes
-/// without memory. A few items take no memory of their own. A long list lies in parts of at most 256
+/// without memory. One item takes no memory of its own. A long list lies in parts of at most 256
 /// items, and a part that is full is split in two.
 #[derive(Drop)]
 pub struct ChunkList<T: Copy + Default> {
@@ -43,7 +42,7 @@ impl<T: Copy + Default> Model for ChunkList<T> {
     ghost invariant = { λ a. IsShort a.form };
 }
 
-ghost use Rattle.chunk_list.specs.Form.{form_view, IsShort, IsFew, TakesMore, Replaces};
+ghost use Rattle.chunk_list.specs.Form.{form_view, IsShort, TakesMore, Replaces};
 
 /// The form that comes next, where one takes no more items.
 fn next_form<T: Copy + Default>(
@@ -55,10 +54,9 @@ fn next_form<T: Copy + Default>(
     ensures free { 0 < (form_view form.now).spare → IsOk result }
 {
     match form {
-        Form::Two(first, second) => {
-            let mut items = Vec::with_capacity(alloc, 4)?;
+        Form::One(first) => {
+            let mut items = Vec::with_capacity(alloc, 2)?;
             items.push(*first)?;
-            items.push(*second)?;
             Ok(Some(Form::Flat(Box::new(alloc, items)?)))
         }
         Form::Flat(items) if items.len() == MOST => {
@@ -66,25 +64,6 @@ fn next_form<T: Copy + Default>(
             Ok(Some(Form::Long(Box::new(alloc, parts)?)))
         }
         _ => Ok(None),
-    }
-}
-
-/// The form of at most two items with one more before the one at a place.
-fn with_item<T: Copy + Default>(form: &Form<T>, i: usize, item: T) -> Form<T>
-    requires few { IsFew form.now }
-    requires place { i ≤ length (form_view form.now).items }
-    requires room { 0 < (form_view form.now).spare }
-    ensures items { (form_view result).items ≡ insert (form_view form.now).items i item }
-    ensures spare { (form_view form.now).spare ≤ (form_view result).spare + 1 }
-    ensures short { IsShort result }
-{
-    match form {
-        Form::One(other) => if i == 0 {
-            Form::Two(item, *other)
-        } else {
-            Form::Two(*other, item)
-        },
-        _ => Form::One(item),
     }
 }
 
@@ -106,10 +85,10 @@ fn reserve_flat<T: Copy>(items: &mut Vec<T>) -> Result<(), AllocError>
 }
 
 impl<T: Copy + Default> ChunkList<T> {
-    /// No item. The first two take no memory.
+    /// No item. The first takes no memory.
     pub fn new(alloc: Global) -> ChunkList<T>
         ensures items { result.items ≡ [] }
-        ensures spare { result.spare ≡ 2 }
+        ensures spare { result.spare ≡ 1 }
     {
         ChunkList {
             form: Form::Empty,
@@ -123,7 +102,6 @@ impl<T: Copy + Default> ChunkList<T> {
         match &self.form {
             Form::Empty => 0,
             Form::One(_) => 1,
-            Form::Two(_, _) => 2,
             Form::Flat(items) => items.len(),
             Form::Long(parts) => parts.len(),
         }
@@ -137,7 +115,6 @@ impl<T: Copy + Default> ChunkList<T> {
         match &self.form {
             Form::Empty => T::default(),
             Form::One(item) => *item,
-            Form::Two(first, second) => if i == 0 { *first } else { *second },
             Form::Flat(items) => items[i],
             Form::Long(parts) => parts.get(i, near),
         }
@@ -193,7 +170,7 @@ impl<T: Copy + Default> ChunkList<T> {
                 let _ = items.insert(i, item);
             }
             Form::Long(parts) => parts.put(i, item),
-            few => *few = with_item(few, i, item),
+            few => *few = Form::One(item),
         }
     }
 }

@@ -68,7 +68,11 @@ pub fn first_after<B: Copy + Default, L: Ledger>(
 }
 
 /// The first place whose stamp does not pass, or the length. The last stamp is tried first.
-pub fn last_place<B: Copy + Default, L: Ledger>(column: &TimeColumn<B>, probe: Probe, steps: &mut Steps<L>) -> usize
+pub fn last_place<B: Copy + Default, L: Ledger>(
+    column: &TimeColumn<B>,
+    probe: Probe,
+    steps: &mut Steps<L>,
+) -> usize
     ensures within { result ≤ length column.now.stamps }
     ensures before { (k : ℕ) → k < result → passes probe (stamp_at column.now.stamps k) ≡ true }
     ensures after { (k : ℕ) → result ≤ k → k < length column.now.stamps → passes probe (stamp_at column.now.stamps k) ≡ false }
