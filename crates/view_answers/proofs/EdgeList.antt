@@ -49,7 +49,7 @@ parts_alike c h p q a b e =
     let l : (p.layer == q.layer) ≡ true = grind (arith, nat_tests, layer) in
     and_from (p.src == q.src) ((p.dst == q.dst) && (p.layer == q.layer)) s (and_from (p.dst == q.dst) (p.layer == q.layer) d l)
 
-edge_names_differ : (c : Contents) → IsIndexed c → IsDistinct same_edge (edge_names c)
+pub edge_names_differ : (c : Contents) → IsIndexed c → IsDistinct same_edge (edge_names c)
 edge_names_differ c h = distinct_map same_parts same_edge (edge_name c.nodes c.layers) (Within c) (parts_alike c h) c.edges (each_from (Within c) c.edges (record { src = 0; dst = 0; layer = 0 }) (λ e lt. h.within e lt)) h.edges
 
 pub named_at : (c : Contents) (e : ℕ) (d : EdgeName) → e < length c.edges → get_or (edge_names c) e d ≡ edge_named c e

@@ -4,3 +4,4 @@ pub mod Written
 pub mod Happenings
 pub mod EdgeList
 pub mod Listing
+pub mod Plainly

@@ -4,15 +4,14 @@ use Rattle.std.specs.Prelude.{OnOk, Result, Ok, Err, Some, slice_get}
 use Rattle.std.proofs.lemmas.List.{append-nil, drop_more, drop_all}
 use Rattle.std.proofs.lemmas.Option.{get_or_from_slice_get, slice_get_within}
 use Rattle.csv.specs.Writing.{default_writer, row_text}
-use Rattle.graph_model.specs.declared.queries.Ask.{Ask}
-use Rattle.graph_model.specs.Answer.{Row, Happened, IsAnswer, row_fields}
+use Rattle.graph_model.specs.Answer.{Row, Happened, row_fields}
 use Rattle.graph_model.specs.Interval.{Interval}
 use Rattle.graph_model.specs.Output.{world_row}
 use Rattle.graph_model.specs.RowText.{rows_text}
 use Rattle.graph_model.specs.World.{World}
 use Rattle.materialise.specs.declared.moments.Moment.{Moment}
 use Rattle.view_answers.specs.Moments.{kind_word, moment_rows}
-use Rattle.view_answers.specs.Parts.{AddsPart, part_rows}
+use Rattle.view_answers.specs.Parts.{part_rows}
 
 -- the first of some rows, and those behind it
 pub row_written : (row : Row) (left behind : List Row) (before after : List ℕ) → left ≡ row ∷ behind → after ≡ before ++ row_text default_writer (row_fields row)
@@ -53,9 +52,3 @@ moments_left ms i m got =
 
 pub moments_end : (ms : List Moment) (i : ℕ) → length ms ≤ i → moment_rows i (drop i ms) ≡ []
 moments_end ms i h = ap (moment_rows i) (drop_all i ms h)
-
--- ---- the part of a world
-
-pub adds_part : {T E : Type 0} (r : Result T E) (w : World) (ask : Ask) (answer : List Row) (old new : List ℕ) → IsAnswer w ask answer → OnOk r (new ≡ old ++ rows_text (part_rows w answer)) → OnOk r (AddsPart w ask old new)
-adds_part (Ok x) w ask answer old new is h = (part_rows w answer, (answer, is, refl), h)
-adds_part (Err e) w ask answer old new is h = tt

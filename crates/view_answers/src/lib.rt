@@ -3,11 +3,13 @@
 
 mod edges;
 mod histories;
+mod laws;
 mod nodes;
 mod part;
 mod point;
 mod rows;
 mod values;
 
+pub use laws::plain_rows_are_the_answer;
 pub use part::add_part;
 pub use point::{PointAnswer, PointAsk, answer_point};
