@@ -10,7 +10,6 @@ use Rattle.graph_model.specs.Reading.{reading}
 use Rattle.graph_model.specs.Script.{QueryRefusal, Unbuilt, is_blank, lines_of}
 use Rattle.query_run.specs.Answered.{is_answered}
 use Rattle.query_run.specs.Cost.{GraphSize, counted_steps, is_counted_line, is_counted_query, is_counted_said, is_counted_script, line_steps, lines_steps, most_steps, query_steps, said_steps, size_read}
-use Rattle.query_run.proofs.Answerable.{query_steps-none}
 
 -- where all lines are counted, the lines that are left are, and the steps so far leave enough for them
 abbrev pub StepsLeft : Model → GraphSize → List (List ℕ) → List (List ℕ) → ℕ → ℕ → Type 0
@@ -52,34 +51,15 @@ pub line_steps-of : (model : Model) (size : GraphSize) (line : List ℕ) (query 
     → IsTrue (is_counted_line model line) → new ≤ old + line_steps size line
 line_steps-of model size line query old new some said cost = rw (some, said) cost
 
--- answered queries cost no search
-said_steps-none : (size : GraphSize) (blank : Bool) (said : Result Query QueryRefusal) → said_steps size blank (if_answered is_answered said) ≡ 0
-said_steps-none size true said = refl
-said_steps-none size false (Ok query) = by (is_answered query) refl
-  where
-    by : (b : Bool) → is_answered query ≡ b → said_steps size false (if b then Ok query else Err Unbuilt) ≡ 0
-    by true is = query_steps-none size query is
-    by false is = refl
-said_steps-none size false (Err refusal) = refl
-
-lines_steps-none : (size : GraphSize) (lines : List (List ℕ)) → lines_steps size lines ≡ 0
-lines_steps-none size [] = refl
-lines_steps-none size (line ∷ lines) =
-    let first = said_steps-none size (is_blank line) (query_said line) in
-    let rest = lines_steps-none size lines in
-    omega (arith, first, rest)
-
 -- the readings of events, and then those of lines
-pub counted_steps-all : (model named : Model) (events script : List ℕ) (size : GraphSize) (old middle new : ℕ) → named ≡ model
+pub counted_steps-all : (model named : Model) (events script : List ℕ) (size : GraphSize) (old middle new : ℕ) → named ≡ model → size ≡ size_read (reading model events)
     → middle ≤ old + most_steps (length (reading model events).accepted)
     → (IsTrue (list_all (is_counted_line named) (lines_of script)) → new ≤ middle + lines_steps size (lines_of script))
     → IsTrue (is_counted_script model script) → new ≤ old + counted_steps model events script
 unfolding is_counted_script counted_steps
-counted_steps-all model named events script size old middle new same first second counted =
-    let more = (rw same at second) counted in
-    let none = lines_steps-none size (lines_of script) in
-    let read = lines_steps-none (size_read (reading model events)) (lines_of script) in
-    omega (arith, more, none, read, first)
+counted_steps-all model named events script size old middle new same is first second counted =
+    let more = (rw (same, is) at second) counted in
+    omega (arith, more, first)
 
 pub counted_steps-read : (model : Model) (events script : List ℕ) (old new : ℕ) → new ≤ old + most_steps (length (reading model events).accepted) → new ≤ old + counted_steps model events script
 unfolding counted_steps

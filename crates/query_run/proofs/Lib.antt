@@ -2,10 +2,10 @@ pub mod Scripts
 pub mod Costs
 pub mod Records
 pub mod CommandWords
-pub mod Tests
 pub mod Written
 pub mod OneOutput
 pub mod CommandLaw
 pub mod Outputs
 pub mod Answerable
 pub mod Counted
+pub mod Sizes

@@ -6,29 +6,24 @@ use Rattle.std.proofs.lemmas.Simd.{map-map}
 use Rattle.std.proofs.lemmas.Grind.{flat_map-append}
 use Rattle.std.specs.List.{list_all}
 use Rattle.std.proofs.lemmas.Bool.{and_parts}
-use Rattle.std.specs.Prelude.{◌&&◌, OnOk, Result, Ok, Err, Some, slice_get, All, if◌then◌else◌}
+use Rattle.std.specs.Prelude.{◌&&◌, OnOk, Result, Ok, Err, Some, is_none, slice_get, if◌then◌else◌}
 use Rattle.std.proofs.lemmas.Option.{get_or_from_slice_get, slice_get_within}
 use Rattle.csv.specs.Writing.{default_writer, row_text}
 use Rattle.graph_model.specs.declared.queries.Ask.{Ask}
-use Rattle.graph_model.specs.declared.queries.Ask.TheVariants.{Degree}
 use Rattle.graph_model.specs.declared.queries.Query.{Query}
-use Rattle.graph_model.specs.Interval.{Interval}
 use Rattle.graph_model.specs.World.{World}
-use Rattle.graph_model.specs.Presence.{nodes}
-use Rattle.graph_model.specs.Answer.{IsAnswer, degree_row, row_fields}
 use Rattle.graph_model.specs.RowText.{rows_text}
 use Rattle.graph_model.specs.Refusal.{RecordRefusal}
-use Rattle.graph_store.specs.Contents.{Contents}
-use Rattle.walk_algorithms.specs.Degrees.{degree_row_of}
-use Rattle.walk_algorithms.specs.declared.degree_rows.Degree.{Degree as Degreed}
 use Rattle.graph_model.specs.Stack.{apply}
 use Rattle.graph_model.specs.Windows.{windows}
 use Rattle.graph_model.specs.Script.{QueryRefusal, Unbuilt, is_blank}
 use Rattle.graph_model.specs.QueryLine.{if_answered, query_of, query_said}
-use Rattle.graph_model.specs.Output.{AreBlocks, AreParts, IsAnswerBlock, IsBlock, IsBlockOf, IsQueryBlock, refused_row, world_row}
-use Rattle.world_laws.proofs.Answers.{answer_degree}
-use Rattle.query_run.specs.Answered.{is_answered, is_answered_ask, is_answered_each, is_answered_view}
-use Rattle.query_run.specs.Rows.{answer_block, answer_rows, block_of, line_block, line_blocks, part_rows, parts_rows, query_block}
+use Rattle.graph_model.specs.Output.{AreBlocks, AreParts, IsAnswerBlock, IsBlock, IsBlockOf, IsQueryBlock, refused_row}
+use Rattle.view_answers.specs.Parts.{part_rows}
+use Rattle.view_answers.specs.Plain.{is_plain, plain_rows}
+use Rattle.view_answers.proofs.Plainly.{plain_answer}
+use Rattle.query_run.specs.Answered.{is_answered}
+use Rattle.query_run.specs.Rows.{answer_block, block_of, line_block, line_blocks, parts_rows, query_block}
 
 -- the row of an item, and those of the items behind it
 pub rows_text-step : {X : Type 0} (f : X → List (List ℕ)) (xs : List X) (i : ℕ) (x : X) (before after : List ℕ) → i < length xs → x ≡ get_or xs i x
@@ -41,45 +36,12 @@ rows_text-step f xs i x before after within is written =
 pub rows_text-first : (first : List (List ℕ)) (rows : List (List (List ℕ))) (old one : List ℕ) → one ≡ old ++ row_text default_writer first → one ++ rows_text rows ≡ old ++ rows_text (first ∷ rows)
 rows_text-first first rows old one e = rw e (simp append_assoc)
 
--- rows that are written behind those in front of them
-pub rows_text-behind : {T E : Type 0} (written : Result T E) (rows all : List (List (List ℕ))) (old front after : List ℕ) → front ++ rows_text rows ≡ old ++ rows_text all
-    → OnOk written (after ≡ front ++ rows_text rows) → OnOk written (after ≡ old ++ rows_text all)
-rows_text-behind (Ok x) rows all old front after block is = is ∙ block
-rows_text-behind (Err e) rows all old front after block is = tt
-
 -- the rows of refused records, that of the graph, and the blocks
 pub rows_text-whole : {X : Type 0} (said : X → ℕ × RecordRefusal) (refused : List X) (graph : List (List ℕ)) (blocks : List (List (List ℕ))) (none first second all : List ℕ) → none ≡ []
     → first ≡ none ++ rows_text (map (λ r. refused_row (said r)) refused) → second ≡ first ++ row_text default_writer graph → all ≡ second ++ rows_text blocks
     → all ≡ rows_text (map refused_row (map said refused) ++ (graph ∷ blocks))
 rows_text-whole said refused graph blocks none first second all empty e f g =
     rw (g, f, e, empty, append_assoc, map-map refused_row said refused) (sym (flat_map-append (row_text default_writer) (map (λ r. refused_row (said r)) refused) (graph ∷ blocks)))
-
--- the row of an item at a place, and those of the items behind it
-pub rows_text-got : {X : Type 0} (f : X → List (List ℕ)) (xs : List X) (i : ℕ) (x : X) (before after : List ℕ) → slice_get xs i ≡ Some x
-    → after ≡ before ++ row_text default_writer (f x) → after ++ rows_text (map f (drop (i + 1) xs)) ≡ before ++ rows_text (map f (drop i xs))
-rows_text-got f xs i x before after got written =
-    rows_text-step f xs i x before after (slice_get_within xs i x got) (sym (get_or_from_slice_get xs i x x got)) written
-
--- what holds of each item holds of the one at a place
-pub all-got : {X : Type 0} (P : X → Type 0) (xs : List X) (i : ℕ) (x : X) → All P xs → slice_get xs i ≡ Some x → P x
-all-got P xs i x all got = subst P (get_or_from_slice_get xs i x x got) (All-get_or P xs i x (slice_get_within xs i x got) all)
-
--- the rows of numbered nodes are those of the nodes that the numbers name
-pub degree_rows-named : (c : Contents) (w : World) (rows : List Degreed) → map (degree_row_of c) rows ≡ map (degree_row w) (nodes w)
-    → (map (λ d. row_fields (degree_row_of c d)) rows ≡ map row_fields (answer_rows w Degree)) × (length rows ≡ length (answer_rows w Degree))
-degree_rows-named c w rows same = (sym (map-map row_fields (degree_row_of c) rows) ∙ ap (map row_fields) same, sym (length-map rows (degree_row_of c)) ∙ ap length same)
-
--- the row of a world, and the rows of numbered nodes, are the part of a question for degrees
-pub degree_part-text : {T E : Type 0} (written : Result T E) (c store : Contents) (w : World) (rows : List Degreed) (bounds : Interval) (size : ℕ) (old front after : List ℕ) → store ≡ c → bounds ≡ w.bounds → size ≡ length rows
-    → map (degree_row_of c) rows ≡ map (degree_row w) (nodes w) → front ≡ old ++ row_text default_writer (world_row bounds size)
-    → OnOk written (after ≡ front ++ rows_text (map (λ d. row_fields (degree_row_of store d)) rows)) → OnOk written (after ≡ old ++ rows_text (part_rows Degree w))
-degree_part-text written c store w rows bounds size old front after is_store is_bounds is_size same first rest =
-    let (named, count) = degree_rows-named c w rows same in
-    let fields = map row_fields (answer_rows w Degree) in
-    let number : size ≡ length (answer_rows w Degree) = is_size ∙ count in
-    let led = rows_text-first (world_row bounds size) fields old front first in
-    let block = rw (is_bounds, number) at led in
-    rows_text-behind written fields (part_rows Degree w) old front after block (rw (is_store, named) at rest)
 
 -- the block of a line, and those of the lines behind it
 pub line_blocks-more : (w : World) (number : ℕ) (left more : List (List ℕ)) (line before after all : List ℕ) → left ≡ line ∷ more → after ≡ before ++ rows_text (line_block w number line)
@@ -97,20 +59,15 @@ pub clean-more : (clean_line : List ℕ → Bool) (left more : List (List ℕ)) 
 clean-more clean_line left more line true line_clean next all is at both so_far = ap (λ b. b && list_all clean_line more) (both ∙ at) ∙ ap (λ lines. list_all clean_line lines) (sym is) ∙ so_far
 clean-more clean_line left more line false line_clean next all is at both so_far = ap (λ b. b && list_all clean_line more) both ∙ so_far
 
--- the rows that answer a question
-answer_rows-are : (w : World) (ask : Ask) → is_answered_ask ask ≡ true → IsAnswer w ask (answer_rows w ask)
-answer_rows-are w Degree h = answer_degree w
-answer_rows-are w _ h = cc
-
-parts_rows-are : (worlds : List World) (ask : Ask) → is_answered_ask ask ≡ true → AreParts worlds ask (parts_rows ask worlds)
+-- the parts of worlds answer a question about them
+parts_rows-are : (worlds : List World) (ask : Ask) → is_plain ask ≡ true → AreParts worlds ask (parts_rows ask worlds)
 parts_rows-are [] ask h = refl
-parts_rows-are (w ∷ more) ask h = (part_rows ask w, parts_rows ask more, (answer_rows w ask, answer_rows-are w ask h, refl), parts_rows-are more ask h, refl)
+parts_rows-are (w ∷ more) ask h = (part_rows w (plain_rows w ask), parts_rows ask more, (plain_rows w ask, plain_answer w ask h, refl), parts_rows-are more ask h, refl)
 
 answer_block-is : (w : World) (number : ℕ) (query : Query) → is_answered query ≡ true → IsAnswerBlock w number query (answer_block w number query)
 unfolding answer_block
 answer_block-is w number query h =
-    let first = and_parts (is_answered_ask query.ask && list_all is_answered_view query.views) (is_answered_each query.each) h in
-    let asked = and_parts (is_answered_ask query.ask) (list_all is_answered_view query.views) first.0 in
+    let asked = and_parts (is_plain query.ask) (is_none query.each) h in
     let worlds = windows (apply query.views w) query.each in
     (parts_rows query.ask worlds, parts_rows-are worlds query.ask asked.0, refl)
 

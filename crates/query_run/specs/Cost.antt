@@ -16,7 +16,7 @@ use Rattle.graph_model.specs.Reading.{Reading, reading}
 use Rattle.graph_model.specs.Rising.{rising}
 use Rattle.graph_model.specs.Script.{QueryRefusal, is_blank, lines_of}
 use Rattle.graph_model.specs.QueryLine.{query_of}
-use Rattle.graph_model.specs.Searches.{Searches, digits, fused_searches, kind_of, list_searches, point_searches}
+use Rattle.graph_model.specs.Searches.{Searches, digits, kind_of, list_searches, point_searches, searches}
 use Rattle.graph_store.specs.Contents.{Contents}
 use Rattle.query_run.specs.Answered.{is_answered}
 
@@ -69,9 +69,9 @@ size_of c = record { nodes = length c.nodes; edges = length c.edges; events = le
 abbrev pub ask_steps : Searches → GraphSize → Ask → ℕ
 ask_steps s size ask = (list_searches s size.nodes size.edges ask + point_searches s ask) * (digits size.events + 1)
 
--- the readings of a query at the most
+-- the readings of a query at the most, each of its views with its own searches
 abbrev pub query_steps : GraphSize → Query → ℕ
-query_steps size query = ask_steps (fused_searches (map kind_of query.views)) size query.ask
+query_steps size query = ask_steps (searches (map kind_of query.views)) size query.ask
 
 -- whether a line has no query that is answered and not counted
 abbrev pub is_counted_said : Model → Bool → Result Query QueryRefusal → Bool

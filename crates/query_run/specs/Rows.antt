@@ -1,35 +1,25 @@
 -- The rows that are written for the lines of a script about a graph.
 use Rattle.std.specs.Prelude.{ℕ, Bool, true, false, ◌+◌, List, [], ◌∷◌, ◌++◌, length, map, Result, Ok, Err}
 use Rattle.graph_model.specs.declared.queries.Ask.{Ask}
-use Rattle.graph_model.specs.declared.queries.Ask.TheVariants.{Degree}
 use Rattle.graph_model.specs.declared.queries.Query.{Query}
 use Rattle.graph_model.specs.World.{World}
-use Rattle.graph_model.specs.Presence.{nodes}
 use Rattle.graph_model.specs.Stack.{apply}
 use Rattle.graph_model.specs.Windows.{windows}
-use Rattle.graph_model.specs.Answer.{Row, degree_row, row_fields}
 use Rattle.graph_model.specs.Script.{QueryRefusal, is_blank, lines_of}
 use Rattle.graph_model.specs.QueryLine.{query_of}
 use Rattle.graph_model.specs.RowText.{rows_text}
-use Rattle.graph_model.specs.Output.{graph_row, query_row, refused_query_row, refused_row, world_row}
+use Rattle.graph_model.specs.Output.{graph_row, query_row, refused_query_row, refused_row}
 use Rattle.graph_store.specs.Contents.{base_of}
+use Rattle.view_answers.specs.Parts.{part_rows}
+use Rattle.view_answers.specs.Plain.{plain_rows}
 use Rattle.query_run.specs.Answered.{is_answered}
 use Rattle.query_run.specs.Told.{told}
 use Rattle.query_run.specs.declared.reading.FileReading.{FileReading}
 
--- the rows that answer a question which is answered
-abbrev pub answer_rows : World → Ask → List Row
-answer_rows w Degree = map (degree_row w) (nodes w)
-answer_rows w _ = []
-
--- the part of a world: its row, and the rows that answer the question about it
-abbrev pub part_rows : Ask → World → List (List (List ℕ))
-part_rows ask w = world_row w.bounds (length (answer_rows w ask)) ∷ map row_fields (answer_rows w ask)
-
--- the parts of worlds, one behind another
+-- the parts of worlds, one behind another: the row of each, and the rows that answer the question about it
 abbrev pub parts_rows : Ask → List World → List (List (List ℕ))
 parts_rows ask [] = []
-parts_rows ask (w ∷ more) = part_rows ask w ++ parts_rows ask more
+parts_rows ask (w ∷ more) = part_rows w (plain_rows w ask) ++ parts_rows ask more
 
 -- the block of an answered query: its row, and a part for each world that it asks about
 unfoldable pub answer_block : World → ℕ → Query → List (List (List ℕ))

@@ -1,30 +1,32 @@
-// Answers to queries.
-ghost use Rattle.std.specs.Prelude.{◌≡◌, ◌≤◌, ◌<◌, ◌+◌, ◌++◌, [], All, map, length, true, false, IsTrue, IsErrOf, OnOk};
-ghost use Rattle.graph_model.specs.Answer.{row_fields};
+//! Answers to queries.
+ghost use Rattle.std.specs.Prelude.{◌≡◌, ◌≤◌, ◌+◌, ◌++◌, true, false, IsTrue, IsErrOf, OnOk};
+ghost use Rattle.std.specs.List.{list_all};
+ghost use Rattle.graph_model.specs.Range.{op_in_range, query_in_range};
 ghost use Rattle.graph_model.specs.RowText.{rows_text};
-ghost use Rattle.graph_model.specs.Searches.{fused_searches};
+ghost use Rattle.graph_model.specs.Stack.{apply};
 ghost use Rattle.graph_store.specs.Contents.{base_of};
-ghost use Rattle.walk_algorithms.specs.Degrees.{degree_row_of};
-ghost use Rattle.query_run.specs.Answered.{is_answered, is_answered_ask};
-ghost use Rattle.query_run.specs.Cost.{ask_steps, is_counted_ask, is_counted_query, query_steps, size_of};
-ghost use Rattle.query_run.specs.Rows.{answer_block, part_rows};
+ghost use Rattle.view_answers.specs.Parts.{part_rows};
+ghost use Rattle.view_answers.specs.Plain.{is_plain, plain_rows};
+ghost use Rattle.query_run.specs.Answered.{is_answered};
+ghost use Rattle.query_run.specs.Cost.{is_counted_ask, is_counted_query, query_steps, size_of};
+ghost use Rattle.query_run.specs.Rows.{answer_block};
 
 use crate::answered::answers;
-use crate::rows::{add_degree, add_query, add_world};
-use base_graphs::{EventGraph, PersistentGraph};
+use crate::rows::add_query;
 use event_rows::RowWriter;
-use graph_model::{Ask, Memory, Query};
+use graph_model::{Memory, Query};
 use graph_store::Store;
+use stack_view::StackView;
 use std::alloc::{AllocError, Global};
 use std::sync::ledger::Ledger;
 use time_column::Steps;
-use view_trait::View;
-use walk_algorithms::{DegreeRows, degrees};
+use view_answers::add_part;
+use view_trait::ready;
 
 /// Why a query is not answered.
 #[derive(Clone, Copy, Debug, PartialEq, Eq, Drop)]
 pub enum AnswerFault {
-    /// It has a view, a question or windows that are not answered yet.
+    /// It has a question or windows that are not answered yet.
     Unbuilt,
     /// Memory was wanting.
     Memory,
@@ -41,72 +43,26 @@ impl From<AllocError> for AnswerFault {
     }
 }
 
-// Adds the rows of degrees.
-fn add_degrees(out: &mut RowWriter, store: &Store, rows: &DegreeRows) -> Result<(), Memory>
-    requires { All (λ d. d.node.0 < length store.now.nodes) rows.now }
-    ensures { OnOk result (out.new ≡ out.old ++ rows_text (map (λ d. row_fields (degree_row_of store.now d)) rows.now)) }
-{
-    for i in 0..rows.len() {
-        add_degree(out, store, *rows.item(i))?;
-    }
-    Ok(())
-}
-
-// Adds the part of a world for a question for degrees.
-fn add_degree_part<V: View, L: Ledger>(
-    alloc: Global,
-    out: &mut RowWriter,
-    view: &V,
-    steps: &mut Steps<L>,
-) -> Result<(), Memory>
-    ensures rows { OnOk result (out.new ≡ out.old ++ rows_text (part_rows Ask.Degree (V.world view.now))) }
-    ensures cost { IsTrue (is_counted_ask (V.world view.now).model Ask.Degree) → steps.new ≤ steps.old + ask_steps (V.searches view.now) (size_of (V.contents view.now)) Ask.Degree }
-{
-    let rows = degrees(alloc, view, steps)?;
-    add_world(out, view.bounds(), rows.len())?;
-    add_degrees(out, view.store(), &rows)
-}
-
-// Adds the part of a view's world: its row, and the rows that answer a question about it.
-fn add_part<V: View, L: Ledger>(
-    alloc: Global,
-    out: &mut RowWriter,
-    view: &V,
-    ask: &Ask,
-    steps: &mut Steps<L>,
-) -> Result<(), Memory>
-    requires { is_answered_ask ask.now ≡ true }
-    ensures rows { OnOk result (out.new ≡ out.old ++ rows_text (part_rows ask.now (V.world view.now))) }
-    ensures cost { IsTrue (is_counted_ask (V.world view.now).model ask.now) → steps.new ≤ steps.old + ask_steps (V.searches view.now) (size_of (V.contents view.now)) ask.now }
-{
-    match ask {
-        Ask::Degree => add_degree_part(alloc, out, view, steps),
-        _ => unreachable!(),
-    }
-}
-
-// Adds the part of the world of all that a store has accepted.
-fn add_base_part<L: Ledger>(
+// Adds the part of the world that the views of a query leave of all that a store has accepted.
+fn add_seen_part<L: Ledger>(
     alloc: Global,
     out: &mut RowWriter,
     store: &Store,
-    ask: &Ask,
+    query: &Query,
     steps: &mut Steps<L>,
 ) -> Result<(), Memory>
-    requires { is_answered_ask ask.now ≡ true }
-    ensures rows { OnOk result (out.new ≡ out.old ++ rows_text (part_rows ask.now (base_of store.now))) }
-    ensures cost { IsTrue (is_counted_ask store.now.model ask.now) → steps.new ≤ steps.old + ask_steps (fused_searches []) (size_of store.now) ask.now }
+    requires plain { is_plain query.now.ask ≡ true }
+    requires in_range { list_all op_in_range query.now.views ≡ true }
+    ensures rows { OnOk result (out.new ≡ out.old ++ rows_text (part_rows (apply query.now.views (base_of store.now)) (plain_rows (apply query.now.views (base_of store.now)) query.now.ask))) }
+    ensures cost { IsTrue (is_counted_ask store.now.model query.now.ask) → steps.new ≤ steps.old + query_steps (size_of store.now) query.now }
 {
-    if let Some(graph) = EventGraph::over(store) {
-        return add_part(alloc, out, &graph, ask, steps);
-    }
-    match PersistentGraph::over(store) {
-        Some(graph) => add_part(alloc, out, &graph, ask, steps),
-        None => unreachable!(),
-    }
+    let ops = ready(alloc, store, &query.views)?;
+    let view = StackView::new(store, &ops);
+    add_part(alloc, out, &view, &query.ask, steps)
 }
 
-/// Adds the block of a query: its row, and the part of each world that it asks about.
+/// Adds the block of a query: its row, and the part of each world that it asks about. The names that
+/// its views give are looked up once, and its worlds are read in place.
 ///
 /// # Errors
 /// `Unbuilt` where the query is not answered yet, and then nothing was added. Want of memory loses the whole text.
@@ -118,6 +74,7 @@ pub fn answer_query<L: Ledger>(
     out: &mut RowWriter,
     steps: &mut Steps<L>,
 ) -> Result<(), AnswerFault>
+    requires { IsTrue (query_in_range query.now) }
     ensures rows { OnOk result (out.new ≡ out.old ++ rows_text (answer_block (base_of store.now) line query.now)) }
     ensures answered { OnOk result (is_answered query.now ≡ true) }
     ensures unbuilt { IsErrOf result AnswerFault.Unbuilt → is_answered query.now ≡ false }
@@ -129,6 +86,6 @@ pub fn answer_query<L: Ledger>(
         return Err(AnswerFault::Unbuilt);
     }
     add_query(out, line, &query.ask, 1)?;
-    add_base_part(alloc, out, store, &query.ask, steps)?;
+    add_seen_part(alloc, out, store, query, steps)?;
     Ok(())
 }

@@ -1,43 +1,27 @@
 // Which queries are answered.
 ghost use Rattle.std.specs.Prelude.{◌≡◌};
-ghost use Rattle.std.specs.List.{list_all};
-ghost use Rattle.query_run.specs.Answered.{is_answered, is_answered_ask, is_answered_view};
+ghost use Rattle.view_answers.specs.Plain.{is_plain};
+ghost use Rattle.query_run.specs.Answered.{is_answered};
 
-use graph_model::{Ask, Op, OpList, Query};
+use graph_model::{Ask, Query};
 
 // Whether a question is answered.
 fn answers_ask(ask: &Ask) -> bool
-    ensures { result ≡ is_answered_ask ask.now }
+    ensures { result ≡ is_plain ask.now }
 {
-    matches!(ask, Ask::Degree)
-}
-
-// Whether queries under a view are answered.
-fn answers_view(view: &Op) -> bool
-    ensures { result ≡ is_answered_view view.now }
-{
-    match view {
-        Op::Window(..) | Op::At(_) | Op::Before(_) | Op::After(_) => false,
-        Op::Layers(_) | Op::ExcludeLayers(_) | Op::Subgraph(_) | Op::ExcludeNodes(_) => false,
-        Op::EdgesWhere(..) | Op::NodesWhere(..) | Op::Valid | Op::NodeTypes(_) => false,
+    match ask {
+        Ask::Nodes | Ask::Edges | Ask::Events | Ask::Degree => true,
+        Ask::NodeHistory(_) | Ask::EdgeHistory(_) => true,
+        Ask::NodeValue(..) | Ask::EdgeValue(..) | Ask::EdgeAlive(..) => true,
+        Ask::Hops(..) | Ask::Weak | Ask::OutComponent(_) | Ask::InComponent(_) => false,
+        Ask::Core(_) | Ask::CoreNumbers | Ask::Arrival(..) => false,
+        Ask::Materialise | Ask::Updates => false,
     }
-}
-
-// Whether queries under views are answered.
-fn answers_views(views: &OpList) -> bool
-    ensures { result ≡ list_all is_answered_view views.now }
-{
-    for i in 0..views.len() {
-        if !answers_view(views.item(i)) {
-            return false;
-        }
-    }
-    true
 }
 
 /// Whether a query is answered.
 pub fn answers(query: &Query) -> bool
     ensures { result ≡ is_answered query.now }
 {
-    answers_ask(&query.ask) && answers_views(&query.views) && query.each.is_none()
+    answers_ask(&query.ask) && query.each.is_none()
 }

@@ -13,5 +13,7 @@ mod rows;
 mod top;
 mod words;
 
+pub use answer::{AnswerFault, answer_query};
 pub use laws::{commands_name_their_files, outputs_are_one};
 pub use top::{Status, Which, run};
+pub use view_answers::{PointAnswer, PointAsk, answer_point};

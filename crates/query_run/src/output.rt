@@ -2,6 +2,7 @@
 ghost use Rattle.std.specs.Prelude.{◌≡◌, ◌≤◌, ◌+◌, ◌++◌, ◌==◌, ◌&&◌, map, length, is_ok, false, IsTrue, Ok, IfOk, OnOk};
 ghost use Rattle.std.specs.List.{list_all};
 ghost use Rattle.graph_model.specs.QueryLine.{if_answered};
+ghost use Rattle.graph_model.specs.Range.{query_in_range};
 ghost use Rattle.graph_model.specs.RowText.{rows_text};
 ghost use Rattle.graph_model.specs.Script.{lines_of};
 ghost use Rattle.graph_model.specs.Output.{IsOutput, is_clean, is_clean_line, refused_row};
@@ -44,6 +45,7 @@ fn add_answer<L: Ledger>(
     query: &Query,
     steps: &mut Steps<L>,
 ) -> Result<bool, Memory>
+    requires { IsTrue (query_in_range query.now) }
     ensures rows { OnOk result (out.new ≡ out.old ++ rows_text (query_block (base_of store.now) number (if_answered is_answered (Ok query.now)))) }
     ensures clean { IfOk result (λ clean. clean ≡ is_ok (if_answered is_answered (Ok query.now))) }
     ensures cost { IsTrue (is_counted_said store.now.model false (if_answered is_answered (Ok query.now)))

@@ -8,7 +8,7 @@ ghost use Rattle.graph_model.specs.Searches.{digits};
 ghost use Rattle.event_rows.specs.Parsing.{IsAtFront, IsWithin, said_of};
 ghost use Rattle.query_run.specs.Causes.{refusal_of};
 ghost use Rattle.query_run.specs.Told.{IsFresh, told};
-ghost use Rattle.query_run.specs.Cost.{most_steps, paid_steps};
+ghost use Rattle.query_run.specs.Cost.{most_steps, paid_steps, size_of, size_read};
 
 use crate::causes::{Cause, row_cause, store_cause};
 use csv::ByteRecord;
@@ -171,6 +171,7 @@ pub fn read_events<L: Ledger>(
 ) -> Result<FileReading, Memory>
     ensures told { IfOk result (λ read. told read ≡ reading model bytes.now) }
     ensures model { IfOk result (λ read. read.store.model ≡ model) }
+    ensures size { IfOk result (λ read. size_of read.store ≡ size_read (reading model bytes.now)) }
     ensures cost { steps.new ≤ steps.old + most_steps (length (reading model bytes.now).accepted) }
 {
     let mut read = FileReading {
@@ -178,5 +179,6 @@ pub fn read_events<L: Ledger>(
         refused: Vec::new(alloc),
     };
     take_all(alloc, &mut read, bytes, steps)?;
+    let _indexed = read.store.nodes();
     Ok(read)
 }

@@ -1,9 +1,7 @@
 // Rows of text.
-ghost use Rattle.std.specs.Prelude.{◌≡◌, ◌++◌, ◌<◌, length, map, OnOk};
+ghost use Rattle.std.specs.Prelude.{◌≡◌, ◌++◌, OnOk};
 ghost use Rattle.csv.specs.Writing.{default_writer, row_text};
-ghost use Rattle.graph_model.specs.Answer.{row_fields};
-ghost use Rattle.graph_model.specs.Output.{ask_word as word_of_ask, graph_row, model_word as word_of_model, query_row, refused_query_row, refused_row, world_row};
-ghost use Rattle.walk_algorithms.specs.Degrees.{degree_row_of};
+ghost use Rattle.graph_model.specs.Output.{ask_word as word_of_ask, graph_row, model_word as word_of_model, query_row, refused_query_row, refused_row};
 ghost use Rattle.query_run.specs.Causes.{query_refusal_of};
 ghost use Rattle.query_run.specs.Told.{refused_of};
 
@@ -12,17 +10,13 @@ use crate::query_causes::{QueryCause, query_word};
 use crate::reading::RefusedRecord;
 use event_rows::RowWriter;
 use graph_model::{Ask, Bounds, Memory, Model};
-use graph_store::Store;
 use itoa::Buffer;
-use walk_algorithms::Degree;
 
 const REFUSED: &[u8] = b"refused";
 
 const GRAPH: &[u8] = b"graph";
 
 const QUERY: &[u8] = b"query";
-
-const WORLD: &[u8] = b"world";
 
 /// The word for a model.
 pub fn model_word(model: Model) -> &'static [u8]
@@ -112,30 +106,5 @@ pub fn add_refused_query(out: &mut RowWriter, line: u64, cause: QueryCause) -> R
         Buffer::new().format(line).as_bytes(),
         REFUSED,
         query_word(cause),
-    ])
-}
-
-/// Adds the row of a world with these bounds, and so many rows of an answer.
-pub fn add_world(out: &mut RowWriter, bounds: Bounds, rows: usize) -> Result<(), Memory>
-    ensures { OnOk result (out.new ≡ out.old ++ row_text default_writer (world_row bounds rows)) }
-{
-    out.add_fields(&[
-        WORLD,
-        Buffer::new().format(bounds.lo()).as_bytes(),
-        Buffer::new().format(bounds.hi()).as_bytes(),
-        Buffer::new().format(rows).as_bytes(),
-    ])
-}
-
-/// Adds the row of a node of a store: its name, and how many neighbours it has inwards, outwards and both ways.
-pub fn add_degree(out: &mut RowWriter, store: &Store, degree: Degree) -> Result<(), Memory>
-    requires { degree.node.0 < length store.now.nodes }
-    ensures { OnOk result (out.new ≡ out.old ++ row_text default_writer (row_fields (degree_row_of store.now degree))) }
-{
-    out.add_fields(&[
-        store.node_name(degree.node).as_str().as_bytes(),
-        Buffer::new().format(degree.ins).as_bytes(),
-        Buffer::new().format(degree.outs).as_bytes(),
-        Buffer::new().format(degree.both).as_bytes(),
     ])
 }

@@ -17,4 +17,4 @@ returns-in_err-read-clause-cost g c = λ counted. counted_steps-read c.args.mode
 pub returns-clause-cost : goal.returns-clause-cost
 returns-clause-cost g c =
     counted_steps-all c.args.model c.in_ok-read.read.store.model c.args.events.now c.args.script.now (size_of c.in_ok-read.read.store) c.args.steps.now c.read_events.new.steps c.answer_read.new.steps
-    c.in_ok-read.ensures.model c.in_ok-read.ensures.cost c.answer_read.ensures.cost
+    c.in_ok-read.ensures.model c.in_ok-read.ensures.size c.in_ok-read.ensures.cost c.answer_read.ensures.cost
