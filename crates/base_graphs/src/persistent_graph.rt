@@ -15,7 +15,7 @@ use view_trait::View;
 /// All that a store has accepted, in the persistent model.
 #[derive(Clone, Copy)]
 pub struct PersistentGraph<'g> {
-    store: &'g Store,
+    pub store: &'g Store,
     ghost shown: { IsShown store.now (base_of store.now) } by { IsShown-prop store.now (base_of store.now) },
 }
 

@@ -19,8 +19,8 @@ use view_trait::{ReadyOps, View};
 /// What a list of views shows of a store, the first view applied first.
 #[derive(Clone, Copy)]
 pub struct StackView<'g> {
-    store: &'g Store,
-    ops: &'g ReadyOps,
+    pub store: &'g Store,
+    pub ops: &'g ReadyOps,
     ghost shown: { IsShown store.now (base_of store.now) } by { IsShown-prop store.now (base_of store.now) },
     ghost in_range: { list_all in_range ops.now ≡ true },
 }

@@ -131,9 +131,27 @@ fn by_value<L: Ledger>(
 
 /// Two edges from `a` to `b` in layers `x` and `y`, and one from `b` to `c` in layer `x`.
 const TWO_LAYERS: [Row<'static>; 3] = [
-    Row { time: 1, change: Change::Add, src: "a", dst: "b", layer: "x" },
-    Row { time: 2, change: Change::Add, src: "a", dst: "b", layer: "y" },
-    Row { time: 3, change: Change::Add, src: "b", dst: "c", layer: "x" },
+    Row {
+        time: 1,
+        change: Change::Add,
+        src: "a",
+        dst: "b",
+        layer: "x",
+    },
+    Row {
+        time: 2,
+        change: Change::Add,
+        src: "a",
+        dst: "b",
+        layer: "y",
+    },
+    Row {
+        time: 3,
+        change: Change::Add,
+        src: "b",
+        dst: "c",
+        layer: "x",
+    },
 ];
 
 fn nests<L: Ledger>(
@@ -181,9 +199,27 @@ fn beyond<L: Ledger>(rt: &impl Abort, graph: PersistentGraph<'_>, steps: &mut St
 
 /// An edge that is added, deleted and added again.
 const DELETED_EDGE: [Row<'static>; 3] = [
-    Row { time: 1, change: Change::Add, src: "a", dst: "b", layer: "l" },
-    Row { time: 5, change: Change::Delete, src: "a", dst: "b", layer: "l" },
-    Row { time: 9, change: Change::Add, src: "a", dst: "b", layer: "l" },
+    Row {
+        time: 1,
+        change: Change::Add,
+        src: "a",
+        dst: "b",
+        layer: "l",
+    },
+    Row {
+        time: 5,
+        change: Change::Delete,
+        src: "a",
+        dst: "b",
+        layer: "l",
+    },
+    Row {
+        time: 9,
+        change: Change::Add,
+        src: "a",
+        dst: "b",
+        layer: "l",
+    },
 ];
 
 fn deletions<L: Ledger>(
