@@ -1,13 +1,13 @@
 -- The readings of the lines of a script, one after another.
-use Rattle.std.proofs.Common.{◌≡◌, ◌≤◌, ◌+◌, ◌∷◌, ℕ, Bool, true, false, List, [], length, refl, arith}
-use Rattle.std.specs.Prelude.{IsTrue, Result, Ok, Err, if◌then◌else◌}
+use Rattle.std.proofs.Common.{◌≡◌, ◌≤◌, ◌+◌, ◌∷◌, ℕ, Bool, true, false, List, length, refl, arith}
+use Rattle.std.specs.Prelude.{IsTrue, Ok, Err, if◌then◌else◌}
 use Rattle.std.specs.List.{list_all}
 use Rattle.std.proofs.lemmas.Bool.{and_parts}
 use Rattle.graph_model.specs.declared.events.Model.{Model}
 use Rattle.graph_model.specs.declared.queries.Query.{Query}
 use Rattle.graph_model.specs.QueryLine.{if_answered, query_said}
 use Rattle.graph_model.specs.Reading.{reading}
-use Rattle.graph_model.specs.Script.{QueryRefusal, Unbuilt, is_blank, lines_of}
+use Rattle.graph_model.specs.Script.{Unbuilt, is_blank, lines_of}
 use Rattle.query_run.specs.Answered.{is_answered}
 use Rattle.query_run.specs.Cost.{GraphSize, counted_steps, is_counted_line, is_counted_query, is_counted_said, is_counted_script, line_steps, lines_steps, most_steps, query_steps, said_steps, size_read}
 

@@ -1,13 +1,11 @@
 -- Rows that were written one after another, and the blocks that they are.
-use Rattle.std.proofs.Common.{◌≡◌, ◌∙◌, ◌++◌, ◌∷◌, ◌+◌, ◌<◌, [], ℕ, Bool, true, false, List, length, drop, get_or, map, refl, sym, ap, append_assoc, subst}
-use Rattle.std.proofs.lemmas.List.{drop_more, length-map}
-use Rattle.std.proofs.lemmas.List.Elements.{All-get_or}
+use Rattle.std.proofs.Common.{◌≡◌, ◌∙◌, ◌++◌, ◌∷◌, ◌+◌, ◌<◌, [], ℕ, Bool, true, false, List, length, drop, get_or, map, refl, sym, ap, append_assoc}
+use Rattle.std.proofs.lemmas.List.{drop_more}
 use Rattle.std.proofs.lemmas.Simd.{map-map}
 use Rattle.std.proofs.lemmas.Grind.{flat_map-append}
 use Rattle.std.specs.List.{list_all}
 use Rattle.std.proofs.lemmas.Bool.{and_parts}
-use Rattle.std.specs.Prelude.{◌&&◌, OnOk, Result, Ok, Err, Some, is_none, slice_get, if◌then◌else◌}
-use Rattle.std.proofs.lemmas.Option.{get_or_from_slice_get, slice_get_within}
+use Rattle.std.specs.Prelude.{◌&&◌, Result, Ok, Err, is_none, if◌then◌else◌}
 use Rattle.csv.specs.Writing.{default_writer, row_text}
 use Rattle.graph_model.specs.declared.queries.Ask.{Ask}
 use Rattle.graph_model.specs.declared.queries.Query.{Query}
