@@ -1,175 +1,226 @@
 -- Links that are counted at their ends, one after another.
-use Rattle.std.proofs.Common.{◌≡◌, ℕ, ◌+◌, ◌<◌, ◌≤◌, Bool, true, false, not, ◌&&◌, List, [], ◌∷◌, ◌++◌, cond, length, take, refl, sym, ◌∙◌, ap, subst, arith, ⊎_elim}
-use Rattle.std.specs.Prelude.{◌==◌, slice_set, Some, None, position}
-use Rattle.std.specs.List.{filter, list_any}
-use Rattle.std.proofs.lemmas.Bool.{cases_eq, eq-eqb, ne_eqb}
-use Rattle.std.proofs.lemmas.List.{length-append, length-set, get_or-set_same, get_or-set_other, append-nil}
-use Rattle.std.proofs.lemmas.List.Elements.{filter-append}
+use Rattle.std.proofs.Common.{◌≡◌, ℕ, ◌+◌, ◌<◌, ◌≤◌, ◌^◌, Bool, true, false, not, ◌&&◌, ◌||◌, List, [], ◌∷◌, length, take, refl, sym, ◌∙◌, ap, subst, arith, inl, inr}
+use Rattle.std.specs.Prelude.{◌==◌, Option, Some, None, Result, Ok, Err, OnOk, position, if◌then◌else◌}
+use Rattle.std.specs.Map.{lookup}
+use Rattle.std.specs.List.{filter, list_any, IsDistinct, AllByRecursion}
+use Rattle.std.proofs.lemmas.Bool.{cases_Bool, cases_eq, eq-eqb, eqb-true, ne_eqb, true≢false}
 use Rattle.std.proofs.lemmas.List.Quantifiers.{position-Some}
 use Rattle.graph_model.specs.World.{World}
 use Rattle.world_laws.proofs.Counts.{length_filter_le}
+use Rattle.world_laws.proofs.Filters.{each_weaker, filter_both, filter_none, filter_same}
 use Rattle.graph_store.specs.declared.pairs.Ends.{Ends}
 use Rattle.graph_store.specs.Ends.{ends_at, same_ends}
 use Rattle.graph_store.specs.Contents.{Contents}
 use Rattle.graph_store.specs.Indexed.{IsIndexed}
-use Rattle.graph_store.proofs.LinkLaws.{same_ends-equal}
+use Rattle.graph_store.proofs.LinkLaws.{same_ends-equal, same_ends-own}
+use Rattle.graph_store.proofs.Listed.{list_any-place}
 use Rattle.graph_store.proofs.Readers.{none_found, one_found}
 use Rattle.walk_algorithms.specs.declared.ways.Ways.{Ways}
 use Rattle.walk_algorithms.specs.Links.{links_from, links_to, links_of, leads_back, alone_among, pair_shown}
-use Rattle.walk_algorithms.specs.Flags.{AreShown, flag_at}
-use Rattle.walk_algorithms.specs.Counted.{IsCounted, ways_at, with_in, with_out}
-use Rattle.walk_algorithms.proofs.Keyed.{any_same_kept, filter_more, short_take}
-
--- a way of a number that changes is read where the number is that one
-at_set : (ways : List Ways) (k n : ℕ) (f : Ways → Ways) → k < length ways → ways_at (slice_set ways k (f (ways_at ways k))) n ≡ cond (k == n) (f (ways_at ways n)) (ways_at ways n)
-at_set ways k n f below =
-    let d : Ways = record { ins = 0; outs = 0; alone = 0 } in
-    ⊎_elim
-    (λ (same : k ≡ n). subst (λ m. ways_at (slice_set ways k (f (ways_at ways k))) m ≡ f (ways_at ways m)) same (get_or-set_same ways k (f (ways_at ways k)) d below)
-    ∙ sym (ap (λ t. cond t (f (ways_at ways n)) (ways_at ways n)) (eq-eqb k n same)))
-    (λ (apart : k ≡ n → ⊥). get_or-set_other ways k n (f (ways_at ways k)) d (λ e. apart (sym e))
-    ∙ sym (ap (λ t. cond t (f (ways_at ways n)) (ways_at ways n)) (ne_eqb k n apart)))
-    (cases_eq k n)
-
-abbrev one_if : Bool → ℕ
-one_if true = 1
-one_if false = 0
-
-filter_push : {X : Type 0} (p : X → Bool) (xs : List X) (x : X) → filter p (xs ++ x ∷ []) ≡ filter p xs ++ cond (p x) (x ∷ []) []
-filter_push p xs x = filter-append p xs (x ∷ [])
-
-count_push : {X : Type 0} (p : X → Bool) (xs : List X) (x : X) → length (filter p (xs ++ x ∷ [])) ≡ length (filter p xs) + one_if (p x)
-count_push p xs x =
-    ap length (filter_push p xs x) ∙ (length-append (filter p xs) (cond (p x) (x ∷ []) []) ∙ ap (λ m. length (filter p xs) + m) (single (p x)))
-  where
-    single : (t : Bool) → length (cond t (x ∷ []) []) ≡ one_if t
-    single true = refl
-    single false = refl
-
-alone_push : (all some : List Ends) (p : Ends) (n : ℕ) → length (alone_among all (some ++ p ∷ []) n) ≡ length (alone_among all some n) + one_if ((p.dst == n) && not (leads_back all p))
-alone_push all some p n =
-    ap (λ xs. length (filter (λ (q : Ends). not (leads_back all q)) xs)) (filter_push (λ (q : Ends). q.dst == n) some p)
-    ∙ by (p.dst == n)
-  where
-    by : (t : Bool) → length (filter (λ (q : Ends). not (leads_back all q)) (links_to some n ++ cond t (p ∷ []) [])) ≡ length (alone_among all some n) + one_if (t && not (leads_back all p))
-    by true = count_push (λ (q : Ends). not (leads_back all q)) (links_to some n) p
-    by false = ap (λ xs. length (filter (λ (q : Ends). not (leads_back all q)) xs)) (append-nil (links_to some n)) ∙ omega arith
-
--- the numbers of a node's ways with one link more
-more_ways : (s t b : Bool) (w : Ways) (i o a i' o' a' : ℕ) → w.ins ≡ i → w.outs ≡ o → w.alone ≡ a → i' ≡ i + one_if t → o' ≡ o + one_if s → a' ≡ a + one_if (t && not b)
-    → ((cond t (with_in b (cond s (with_out w) w)) (cond s (with_out w) w)).ins ≡ i') × ((cond t (with_in b (cond s (with_out w) w)) (cond s (with_out w) w)).outs ≡ o') × ((cond t (with_in b (cond s (with_out w) w)) (cond s (with_out w) w)).alone ≡ a')
-more_ways true true true w i o a i' o' a' x y z u v r = (omega arith, omega arith, omega arith)
-more_ways true true false w i o a i' o' a' x y z u v r = (omega arith, omega arith, omega arith)
-more_ways true false b w i o a i' o' a' x y z u v r = (omega arith, omega arith, omega arith)
-more_ways false true true w i o a i' o' a' x y z u v r = (omega arith, omega arith, omega arith)
-more_ways false true false w i o a i' o' a' x y z u v r = (omega arith, omega arith, omega arith)
-more_ways false false b w i o a i' o' a' x y z u v r = (omega arith, omega arith, omega arith)
-
-module _ (all some : List Ends) (nodes : ℕ) (ways : List Ways) (h : IsCounted all some nodes ways) where
-  -- one link more is counted at its source, and then at its destination
-  pub counted_push : (p : Ends) (back : Bool) (mid after : List Ways) → p.src < nodes → p.dst < nodes → back ≡ leads_back all p → mid ≡ slice_set ways p.src (with_out (ways_at ways p.src)) → after ≡ slice_set mid p.dst (with_in back (ways_at mid p.dst))
-      → IsCounted all (some ++ p ∷ []) nodes after
-  counted_push p back mid after below_src below_dst is_back is_mid is_after =
-      let src : p.src < length ways = omega (arith, h.len) in
-      let long_mid : length mid ≡ nodes = ap length is_mid ∙ (length-set ways p.src (with_out (ways_at ways p.src)) ∙ h.len) in
-      let dst : p.dst < length mid = omega (arith, long_mid) in
-      record {
-        len = ap length is_after ∙ (length-set mid p.dst (with_in back (ways_at mid p.dst)) ∙ long_mid);
-        counted = λ n below.
-            let old = h.counted n below in
-            let read_mid : ways_at mid n ≡ cond (p.src == n) (with_out (ways_at ways n)) (ways_at ways n) = ap (λ ws. ways_at ws n) is_mid ∙ at_set ways p.src n with_out src in
-            let read : ways_at after n ≡ cond (p.dst == n) (with_in back (cond (p.src == n) (with_out (ways_at ways n)) (ways_at ways n))) (cond (p.src == n) (with_out (ways_at ways n)) (ways_at ways n)) =
-            ap (λ ws. ways_at ws n) is_after ∙ (at_set mid p.dst n (with_in back) dst ∙ ap (λ w. cond (p.dst == n) (with_in back w) w) read_mid) in
-            let m = more_ways (p.src == n) (p.dst == n) back (ways_at ways n) (length (links_to some n)) (length (links_from some n)) (length (alone_among all some n)) (length (links_to (some ++ p ∷ []) n)) (length (links_from (some ++ p ∷ []) n)) (length (alone_among all (some ++ p ∷ []) n))
-            old.ins old.outs old.alone (count_push (λ (q : Ends). q.dst == n) some p) (count_push (λ (q : Ends). q.src == n) some p) (alone_push all some p n ∙ ap (λ t. length (alone_among all some n) + one_if ((p.dst == n) && not t)) (sym is_back)) in
-            record { ins = ap (λ (w : Ways). w.ins) read ∙ m.0; outs = ap (λ (w : Ways). w.outs) read ∙ m.1; alone = ap (λ (w : Ways). w.alone) read ∙ m.2 };
-      }
-
-  -- no way is more than the links that are counted
-  pub few_ways : (n : ℕ) → n < nodes → ((ways_at ways n).outs ≤ length some) × ((ways_at ways n).ins ≤ length some) × ((ways_at ways n).alone ≤ length some)
-  few_ways n below =
-      let w = h.counted n below in
-      let outs = length_filter_le (λ (p : Ends). p.src == n) some in
-      let ins = length_filter_le (λ (p : Ends). p.dst == n) some in
-      let alone = length_filter_le (λ (p : Ends). not (leads_back all p)) (links_to some n) in
-      (omega (arith, w.outs, outs), omega (arith, w.ins, ins), omega (arith, w.alone, alone, ins))
-
--- what a link that begins at a node leaves of the others
-out_leaves : (ways : List Ways) (k n : ℕ) → k < length ways → ((ways_at (slice_set ways k (with_out (ways_at ways k))) n).ins ≡ (ways_at ways n).ins) × ((ways_at (slice_set ways k (with_out (ways_at ways k))) n).alone ≡ (ways_at ways n).alone)
-out_leaves ways k n below =
-    let read = at_set ways k n with_out below in
-    (ap (λ (w : Ways). w.ins) read ∙ (ins (k == n)), ap (λ (w : Ways). w.alone) read ∙ (alone (k == n)))
-  where
-    ins : (t : Bool) → (cond t (with_out (ways_at ways n)) (ways_at ways n)).ins ≡ (ways_at ways n).ins
-    ins true = refl
-    ins false = refl
-
-    alone : (t : Bool) → (cond t (with_out (ways_at ways n)) (ways_at ways n)).alone ≡ (ways_at ways n).alone
-    alone true = refl
-    alone false = refl
-
--- a look-up finds whether a link leads from one node to another
-pub led_none : (c : Contents) (w : World) (ends : Ends) → position (same_ends ends) c.pairs ≡ None → false ≡ list_any (same_ends ends) (links_of c w)
-led_none c w ends e = sym (any_same_kept same_ends same_ends-equal (pair_shown c w) ends c.pairs ∙ (ap (λ t. pair_shown c w ends && t) (none_found (same_ends ends) c.pairs e) ∙ never (pair_shown c w ends)))
-  where
-    never : (t : Bool) → (t && false) ≡ false
-    never true = refl
-    never false = refl
-
-pub led_some : (c : Contents) (w : World) (flags : List Bool) → AreShown c w flags → (ends : Ends) (i : ℕ) → position (same_ends ends) c.pairs ≡ Some i → (i < length flags) × (flag_at flags i ≡ list_any (same_ends ends) (links_of c w))
-led_some c w flags h ends i e =
-    let r = position-Some (same_ends ends) c.pairs i (record { src = 0; dst = 0 }) e in
-    let long = h.len in (
-      (let lt = r.0 in omega arith),
-      h.shown i r.0
-          ∙ (ap (pair_shown c w) (sym (same_ends-equal ends (ends_at c.pairs i) r.1))
-          ∙ sym (any_same_kept same_ends same_ends-equal (pair_shown c w) ends c.pairs ∙ (ap (λ t. pair_shown c w ends && t) (one_found (same_ends ends) c.pairs i ends e) ∙ always (pair_shown c w ends)))),
-    )
-  where
-    always : (t : Bool) → (t && true) ≡ t
-    always true = refl
-    always false = refl
+use Rattle.walk_algorithms.specs.Counted.{AreFew, AreWays, IsCounted, IsJoined, between, joined, plus, ways_of}
+use Rattle.walk_algorithms.specs.Taken.{is_taken, links_until, same_two, turned}
+use Rattle.walk_algorithms.proofs.Keyed.{any_same_kept}
+use Rattle.walk_algorithms.proofs.Taken.{among_same, count_new, count_one, count_two, one_if, taken_all, two_alike}
 
 -- the ends of a pair that a store gives are numbers of nodes
-pub ends_known : (v c : Contents) → v ≡ c → IsIndexed c → (p src dst : ℕ) → p < length c.pairs → src ≡ (ends_at v.pairs p).src → dst ≡ (ends_at v.pairs p).dst
-    → (src ≡ (ends_at c.pairs p).src) × (dst ≡ (ends_at c.pairs p).dst) × (src < length c.nodes) × (dst < length c.nodes)
-ends_known v c same indexed p src dst below is_src is_dst =
-    let within = indexed.pairs_within p below in
-    let src_too : src ≡ (ends_at c.pairs p).src = is_src ∙ ap (λ (x : Contents). (ends_at x.pairs p).src) same in
-    let dst_too : dst ≡ (ends_at c.pairs p).dst = is_dst ∙ ap (λ (x : Contents). (ends_at x.pairs p).dst) same in
-    (src_too, dst_too, subst (λ k. k < length c.nodes) (sym src_too) within.0, subst (λ k. k < length c.nodes) (sym dst_too) within.1)
+pub ends_known : (v c : Contents) → v ≡ c → (p src dst : ℕ) → src ≡ (ends_at v.pairs p).src → dst ≡ (ends_at v.pairs p).dst
+    → (src ≡ (ends_at c.pairs p).src) × (dst ≡ (ends_at c.pairs p).dst)
+ends_known v c same p src dst is_src is_dst =
+    (is_src ∙ ap (λ (x : Contents). (ends_at x.pairs p).src) same, is_dst ∙ ap (λ (x : Contents). (ends_at x.pairs p).dst) same)
 
-module _ (c : Contents) (w : World) (i : ℕ) (ways : List Ways) (below : i < length c.pairs) (h : IsCounted (links_of c w) (filter (pair_shown c w) (take i c.pairs)) (length c.nodes) ways) where
-  -- a pair that is no link leaves the count as it is
-  pub counted_same : pair_shown c w (ends_at c.pairs i) ≡ false → IsCounted (links_of c w) (filter (pair_shown c w) (take (i + 1) c.pairs)) (length c.nodes) ways
-  counted_same e =
-      let same : filter (pair_shown c w) (take (i + 1) c.pairs) ≡ filter (pair_shown c w) (take i c.pairs) = filter_more (pair_shown c w) c.pairs i (record { src = 0; dst = 0 }) below ∙ rw e (append-nil (filter (pair_shown c w) (take i c.pairs))) in
-      subst (λ xs. IsCounted (links_of c w) xs (length c.nodes) ways) (sym same) h
+-- the place of the pair of the same nodes the other way round, as a store gives it
+pub found_turned : (v c : Contents) → v ≡ c → (p src dst : ℕ) → src ≡ (ends_at c.pairs p).src → dst ≡ (ends_at c.pairs p).dst → (found : Option ℕ) → found ≡ position (same_ends (record { src = dst; dst = src })) v.pairs
+    → found ≡ position (same_ends (turned (ends_at c.pairs p))) c.pairs
+found_turned v c same p src dst is_src is_dst found is = is ∙ (λ k. position (same_ends (record { src = is_dst k; dst = is_src k })) (same k).pairs)
 
-  -- the link of a number, counted with those before it
-  pub counted_next : pair_shown c w (ends_at c.pairs i) ≡ true → (src dst : ℕ) (back : Bool) (mid after : List Ways) → src ≡ (ends_at c.pairs i).src → dst ≡ (ends_at c.pairs i).dst → src < length c.nodes → dst < length c.nodes
-      → back ≡ list_any (same_ends (record { src = dst; dst = src })) (links_of c w)
-      → mid ≡ slice_set ways src (with_out (ways_at ways src)) → after ≡ slice_set mid dst (with_in back (ways_at mid dst)) → IsCounted (links_of c w) (filter (pair_shown c w) (take (i + 1) c.pairs)) (length c.nodes) after
-  counted_next shown src dst back mid after is_src is_dst below_src below_dst is_back is_mid is_after =
-      let p : Ends = record { src = src; dst = dst } in
-      let same : ends_at c.pairs i ≡ p = λ k. record { src = sym is_src k; dst = sym is_dst k } in
-      let more : filter (pair_shown c w) (take (i + 1) c.pairs) ≡ filter (pair_shown c w) (take i c.pairs) ++ p ∷ [] =
-      filter_more (pair_shown c w) c.pairs i (record { src = 0; dst = 0 }) below ∙ (rw shown refl ∙ ap (λ q. filter (pair_shown c w) (take i c.pairs) ++ q ∷ []) same) in
-      subst (λ xs. IsCounted (links_of c w) xs (length c.nodes) after) (sym more) (counted_push (links_of c w) (filter (pair_shown c w) (take i c.pairs)) (length c.nodes) ways h p back mid after below_src below_dst is_back is_mid is_after)
+-- what follows from what a call ensures where it succeeds
+pub on_ok : {X E : Type 0} (r : Result X E) (P Q : Type 0) → (P → Q) → OnOk r P → OnOk r Q
+on_ok (Ok x) P Q f h = f h
+on_ok (Err e) P Q f h = h
 
-  -- there is room for one more
-  pub room_next : (n : ℕ) → n < length c.nodes → ((ways_at ways n).outs < length c.pairs) × ((ways_at ways n).ins < length c.pairs) × ((ways_at ways n).alone < length c.pairs)
-  room_next n within =
-      let few = few_ways (links_of c w) (filter (pair_shown c w) (take i c.pairs)) (length c.nodes) ways h n within in
-      let kept = length_filter_le (pair_shown c w) (take i c.pairs) in
-      let taken = short_take i c.pairs in
-      (omega (arith, few.0, kept, taken), omega (arith, few.1, kept, taken), omega (arith, few.2, kept, taken))
+and_true : (t : Bool) → (t && true) ≡ t
+and_true true = refl
+and_true false = refl
 
-  -- also after it is counted at its source
-  pub room_after : (src n : ℕ) (mid : List Ways) → src < length c.nodes → n < length c.nodes → mid ≡ slice_set ways src (with_out (ways_at ways src)) → ((ways_at mid n).ins < length c.pairs) × ((ways_at mid n).alone < length c.pairs)
-  room_after src n mid below_src within is_mid =
-      let room = room_next n within in
-      let left = out_leaves ways src n (omega (arith, h.len, below_src)) in
-      let ins : (ways_at mid n).ins ≡ (ways_at ways n).ins = ap (λ ws. (ways_at ws n).ins) is_mid ∙ left.0 in
-      let alone : (ways_at mid n).alone ≡ (ways_at ways n).alone = ap (λ ws. (ways_at ws n).alone) is_mid ∙ left.1 in
-      (omega (arith, room.1, ins), omega (arith, room.2, alone))
+and_false : (t : Bool) → (t && false) ≡ false
+and_false true = refl
+and_false false = refl
+
+-- ---- links and pairs
+
+module _ (c : Contents) (w : World) (ends : Ends) where
+  -- a pair is a link where it is one of the store and is shown
+  linked : list_any (same_ends ends) (links_of c w) ≡ (pair_shown c w ends && list_any (same_ends ends) c.pairs)
+  linked = any_same_kept same_ends same_ends-equal (pair_shown c w) ends c.pairs
+
+  pub linked_none : position (same_ends ends) c.pairs ≡ None → false ≡ list_any (same_ends ends) (links_of c w)
+  linked_none e = sym (linked ∙ (ap (λ t. pair_shown c w ends && t) (none_found (same_ends ends) c.pairs e) ∙ and_false (pair_shown c w ends)))
+
+  pub linked_some : (j : ℕ) → position (same_ends ends) c.pairs ≡ Some j → (j < length c.pairs) × (same_ends ends (ends_at c.pairs j) ≡ true) × (pair_shown c w (ends_at c.pairs j) ≡ list_any (same_ends ends) (links_of c w))
+  linked_some j e =
+      let r = position-Some (same_ends ends) c.pairs j (record { src = 0; dst = 0 }) e in (
+        r.0,
+        r.1,
+        ap (pair_shown c w) (sym (same_ends-equal ends (ends_at c.pairs j) r.1))
+            ∙ sym (linked ∙ (ap (λ t. pair_shown c w ends && t) (one_found (same_ends ends) c.pairs j ends e) ∙ and_true (pair_shown c w ends))),
+      )
+
+module _ (c : Contents) (w : World) (i : ℕ) (below : i < length c.pairs) where
+  known : list_any (same_ends (ends_at c.pairs i)) c.pairs ≡ true
+  known = list_any-place (same_ends (ends_at c.pairs i)) c.pairs i (record { src = 0; dst = 0 }) below (same_ends-own (ends_at c.pairs i))
+
+  pub linked_here : pair_shown c w (ends_at c.pairs i) ≡ list_any (same_ends (ends_at c.pairs i)) (links_of c w)
+  linked_here = sym (linked c w (ends_at c.pairs i) ∙ (ap (λ t. pair_shown c w (ends_at c.pairs i) && t) known ∙ and_true (pair_shown c w (ends_at c.pairs i))))
+
+  -- a loop leads back itself
+  pub loop_back : (ends_at c.pairs i).src ≡ (ends_at c.pairs i).dst → pair_shown c w (ends_at c.pairs i) ≡ leads_back (links_of c w) (ends_at c.pairs i)
+  loop_back loop = linked_here ∙ (λ k. list_any (same_ends (record { src = loop k; dst = sym loop k })) (links_of c w))
+
+-- ---- one pair more
+
+apart_from_itself : (t b : Bool) → t ≡ b → one_if (not t && b) ≡ 0
+apart_from_itself true b e = refl
+apart_from_itself false true e = absurd (true≢false (sym e))
+apart_from_itself false false e = refl
+
+-- the numbers of a node's ways with the links between two nodes more, where it tells whether it is the one and the other
+more_ways : (s d loop t b : Bool) (w : Ways) (i o a i' o' a' : ℕ) → (loop ≡ true → (s ≡ d) × (t ≡ b)) → (loop ≡ false → (s && d) ≡ false) → w.ins ≡ i → w.outs ≡ o → w.alone ≡ a
+    → i' ≡ i + (one_if (d && t) + (if loop then 0 else one_if (s && b)))
+    → o' ≡ o + (one_if (s && t) + (if loop then 0 else one_if (d && b)))
+    → a' ≡ a + (one_if ((d && not b) && t) + (if loop then 0 else one_if ((s && not t) && b)))
+    → let v : Ways = if s then plus w (between t b) else (if d then plus w (between b t) else w) in (v.ins ≡ i') × (v.outs ≡ o') × (v.alone ≡ a')
+more_ways true true true t b w i o a i' o' a' same apart x y z u v r = (let e = ap one_if (same refl).1 in omega arith, omega arith, (let e = apart_from_itself t b (same refl).1 in let f = apart_from_itself b t (sym (same refl).1) in omega arith))
+more_ways true false true t b w i o a i' o' a' same apart x y z u v r = absurd (true≢false (same refl).0)
+more_ways false true true t b w i o a i' o' a' same apart x y z u v r = absurd (true≢false (sym (same refl).0))
+more_ways false false true t b w i o a i' o' a' same apart x y z u v r = (omega arith, omega arith, omega arith)
+more_ways true true false t b w i o a i' o' a' same apart x y z u v r = absurd (true≢false (apart refl))
+more_ways true false false t b w i o a i' o' a' same apart x y z u v r = (omega arith, omega arith, omega arith)
+more_ways false true false t b w i o a i' o' a' same apart x y z u v r = (omega arith, omega arith, omega arith)
+more_ways false false false t b w i o a i' o' a' same apart x y z u v r = (omega arith, omega arith, omega arith)
+
+module _ (c : Contents) (w : World) (indexed : IsIndexed c) (i : ℕ) (below : i < length c.pairs) where
+  as_one : (test : Ends → Bool) (k : ℕ) → length (filter test (links_until c w k)) ≡ length (filter (λ p. (test p && pair_shown c w p) && is_taken (take k c.pairs) p) c.pairs)
+  as_one test k =
+      ap length (filter_both (λ p. pair_shown c w p && is_taken (take k c.pairs) p) test c.pairs)
+      ∙ (λ j. length (filter (λ p. turn (pair_shown c w p) (is_taken (take k c.pairs) p) (test p) j) c.pairs))
+    where
+      turn : (a b t : Bool) → ((a && b) && t) ≡ ((t && a) && b)
+      turn true b true = and_true b
+      turn true b false = and_false b
+      turn false b true = refl
+      turn false b false = refl
+
+  -- how many links pass a test, with a pair that was not taken and its reverse more
+  links_more : (test : Ends → Bool) → is_taken (take i c.pairs) (ends_at c.pairs i) ≡ false → length (filter test (links_until c w (i + 1)))
+      ≡ length (filter test (links_until c w i)) + (one_if (test (ends_at c.pairs i) && pair_shown c w (ends_at c.pairs i)) + (if ((ends_at c.pairs i).src == (ends_at c.pairs i).dst) then 0 else one_if (test (turned (ends_at c.pairs i)) && leads_back (links_of c w) (ends_at c.pairs i))))
+  links_more test new =
+      let e = ends_at c.pairs i in
+      let both = λ (p : Ends). test p && pair_shown c w p in
+      let here : one_if (both e && list_any (same_ends e) c.pairs) ≡ one_if (both e) = ap one_if (ap (λ t. both e && t) (known c w i below) ∙ and_true (both e)) in
+      let there : one_if (both (turned e) && list_any (same_ends (turned e)) c.pairs) ≡ one_if (test (turned e) && leads_back (links_of c w) e) =
+      ap one_if (grouped (test (turned e)) (pair_shown c w (turned e)) (list_any (same_ends (turned e)) c.pairs) ∙ ap (λ t. test (turned e) && t) (sym (linked c w (turned e)))) in
+      as_one test (i + 1)
+      ∙ (count_new same_two two_alike c.pairs i (record { src = 0; dst = 0 }) below (λ p. p) both c.pairs new
+      ∙ (λ k. sym (as_one test i) k + (count_two (λ p. p) both c.pairs e
+      ∙ (λ j. (count_one both c.pairs indexed.pairs e ∙ here) j + (if (e.src == e.dst) then 0 else (count_one both c.pairs indexed.pairs (turned e) ∙ there) j))) k))
+    where
+      grouped : (a b t : Bool) → ((a && b) && t) ≡ (a && (b && t))
+      grouped true b t = refl
+      grouped false b t = refl
+
+  module _ (new : is_taken (take i c.pairs) (ends_at c.pairs i) ≡ false) (before : List (ℕ × Ways)) (h : IsCounted (links_of c w) (links_until c w i) before) where
+    abbrev ends : Ends
+    ends = ends_at c.pairs i
+
+    abbrev there : Bool
+    there = pair_shown c w ends
+
+    abbrev back : Bool
+    back = leads_back (links_of c w) ends
+
+    -- the links between two nodes, counted at both with those before
+    ways_more : (n : ℕ) → AreWays (links_of c w) (links_until c w (i + 1)) n (joined ends.src ends.dst there back n (ways_of before n))
+    ways_more n =
+        let all = links_of c w in
+        let was = h.ways n in
+        let lead = λ (p : Ends). not (leads_back all p) in
+        let into = λ (p : Ends). p.dst == n in
+        let alone : (k : ℕ) → length (alone_among all (links_until c w k) n) ≡ length (filter (λ p. into p && lead p) (links_until c w k)) = λ k. ap length (filter_both into lead (links_until c w k)) in
+        let own : leads_back all (turned ends) ≡ there = sym (linked_here c w i below) in
+        let m =
+        more_ways (ends.src == n) (ends.dst == n) (ends.src == ends.dst) there back (ways_of before n) (length (links_to (links_until c w i) n)) (length (links_from (links_until c w i) n)) (length (alone_among all (links_until c w i) n)) (length (links_to (links_until c w (i + 1)) n)) (length (links_from (links_until c w (i + 1)) n)) (length (alone_among all (links_until c w (i + 1)) n))
+        (λ k. let loop : ends.src ≡ ends.dst = eqb-true ends.src ends.dst k in (ap (λ x. x == n) loop, loop_back c w i below loop))
+        (λ k. apart ends.src ends.dst k)
+        was.ins was.outs was.alone
+        (links_more into new)
+        (links_more (λ p. p.src == n) new)
+        (alone (i + 1) ∙ (links_more (λ p. into p && lead p) new ∙ (λ k. sym (alone i) k + (one_if ((into ends && not back) && there) + (if (ends.src == ends.dst) then 0 else one_if (((ends.src == n) && not (own k)) && back)))))) in
+        record { ins = m.0; outs = m.1; alone = m.2 }
+      where
+        apart : (s d : ℕ) → (s == d) ≡ false → ((s == n) && (d == n)) ≡ false
+        apart s d k = elim (cases_Bool (s == n)) [
+          | inl e ↦ ap (λ t. t && (d == n)) e ∙ elim (cases_Bool (d == n)) [
+            | inl f ↦ absurd (true≢false (sym (eq-eqb s d (eqb-true s n e ∙ sym (eqb-true d n f))) ∙ k))
+            | inr f ↦ f
+          ]
+          | inr e ↦ ap (λ t. t && (d == n)) e
+        ]
+
+    pub counted_more : (src dst : ℕ) → src ≡ ends.src → dst ≡ ends.dst → (s t : Bool) → s ≡ there → t ≡ back → (after : List (ℕ × Ways)) → IsJoined src dst s t before after → IsCounted (links_of c w) (links_until c w (i + 1)) after
+    counted_more src dst is_src is_dst s t is_there is_back after j = record {
+      ways = λ n. subst (AreWays (links_of c w) (links_until c w (i + 1)) n) (sym (j.ways n ∙ (λ k. joined (is_src k) (is_dst k) (is_there k) (is_back k) n (ways_of before n)))) (ways_more n);
+      sparse = j.sparse h.sparse;
+    }
+
+    few_more : length c.pairs < 2 ^ 32 → (n : ℕ) (ways : Ways) → joined ends.src ends.dst there back n (ways_of before n) ≡ ways → AreFew ways
+    few_more few n ways is =
+        let some = links_until c w (i + 1) in
+        let m = subst (AreWays (links_of c w) some n) is (ways_more n) in
+        let kept = length_filter_le (λ p. pair_shown c w p && is_taken (take (i + 1) c.pairs) p) c.pairs in
+        let ins = length_filter_le (λ (p : Ends). p.dst == n) some in
+        let outs = length_filter_le (λ (p : Ends). p.src == n) some in
+        let alone = length_filter_le (λ (p : Ends). not (leads_back (links_of c w) p)) (links_to some n) in
+        (omega (arith, m.ins, ins, kept, few), omega (arith, m.outs, outs, kept, few), omega (arith, m.alone, alone, ins, kept, few))
+
+    pub few_src : length c.pairs < 2 ^ 32 → (src : ℕ) → src ≡ ends.src → (s t : Bool) → s ≡ there → t ≡ back → AreFew (plus (ways_of before src) (between s t))
+    few_src few src is_src s t is_there is_back =
+        few_more few src (plus (ways_of before src) (between s t))
+        (ap (λ b. if b then plus (ways_of before src) (between there back) else (if (ends.dst == src) then plus (ways_of before src) (between back there) else ways_of before src)) (eq-eqb ends.src src (sym is_src))
+        ∙ (λ k. plus (ways_of before src) (between (sym is_there k) (sym is_back k))))
+
+    pub few_dst : length c.pairs < 2 ^ 32 → (dst : ℕ) → dst ≡ ends.dst → (s t : Bool) → s ≡ there → t ≡ back → AreFew (plus (ways_of before dst) (between t s))
+    few_dst few dst is_dst s t is_there is_back =
+        few_more few dst (plus (ways_of before dst) (between t s))
+        ((elim (cases_Bool (ends.src == dst)) [
+          | inl e ↦
+              let loop : ends.src ≡ ends.dst = eqb-true ends.src dst e ∙ is_dst in
+              let same : there ≡ back = loop_back c w i below loop in
+              ap (λ b. if b then plus (ways_of before dst) (between there back) else (if (ends.dst == dst) then plus (ways_of before dst) (between back there) else ways_of before dst)) e
+              ∙ (λ k. plus (ways_of before dst) (between (same k) (sym same k)))
+          | inr e ↦
+              ap (λ b. if b then plus (ways_of before dst) (between there back) else (if (ends.dst == dst) then plus (ways_of before dst) (between back there) else ways_of before dst)) e
+              ∙ ap (λ b. if b then plus (ways_of before dst) (between back there) else ways_of before dst) (eq-eqb ends.dst dst (sym is_dst))
+        ])
+        ∙ (λ k. plus (ways_of before dst) (between (sym is_back k) (sym is_there k))))
+
+  -- a pair that was taken with its reverse adds nothing
+  pub counted_same : is_taken (take i c.pairs) (ends_at c.pairs i) ≡ true → (table : List (ℕ × Ways)) → IsCounted (links_of c w) (links_until c w i) table → IsCounted (links_of c w) (links_until c w (i + 1)) table
+  counted_same old table h =
+      subst (λ some. IsCounted (links_of c w) some table)
+      (λ k. filter (λ p. pair_shown c w p && sym (among_same same_two two_alike c.pairs i (record { src = 0; dst = 0 }) below old p) k) c.pairs) h
+
+-- no link is counted before the first pair
+pub counted_none : (c : Contents) (w : World) → IsCounted (links_of c w) (links_until c w 0) []
+counted_none c w =
+    let none : links_until c w 0 ≡ [] = filter_none (λ p. pair_shown c w p && false) c.pairs (each c.pairs) in
+    subst (λ some. IsCounted (links_of c w) some []) (sym none) (record { ways = λ n. record { ins = refl; outs = refl; alone = refl }; sparse = λ n. refl })
+  where
+    each : (xs : List Ends) → AllByRecursion (λ p. (pair_shown c w p && false) ≡ false) xs
+    each [] = tt
+    each (x ∷ xs) = (and_false (pair_shown c w x), each xs)
+
+-- and all are after the last
+pub counted_all : (c : Contents) (w : World) (k : ℕ) → k ≡ length c.pairs → (table : List (ℕ × Ways)) → IsCounted (links_of c w) (links_until c w k) table → IsCounted (links_of c w) (links_of c w) table
+counted_all c w k is table h =
+    subst (λ some. IsCounted (links_of c w) some table)
+    (ap (links_until c w) is ∙ filter_same (λ p. pair_shown c w p && is_taken (take (length c.pairs) c.pairs) p) (pair_shown c w) c.pairs (each_weaker (λ p. is_taken (take (length c.pairs) c.pairs) p ≡ true) (λ p. (pair_shown c w p && is_taken (take (length c.pairs) c.pairs) p) ≡ pair_shown c w p) (λ p e. ap (λ t. pair_shown c w p && t) e ∙ and_true (pair_shown c w p)) c.pairs (taken_all c.pairs))) h

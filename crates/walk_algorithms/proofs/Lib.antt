@@ -3,6 +3,7 @@ pub mod Links
 pub mod Base
 pub mod Sorted
 pub mod Keyed
+pub mod Taken
 pub mod Spent
 pub mod Counted
 pub mod Rows

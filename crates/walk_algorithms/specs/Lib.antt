@@ -1,4 +1,4 @@
 pub mod Links
 pub mod Counted
-pub mod Flags
+pub mod Taken
 pub mod Degrees

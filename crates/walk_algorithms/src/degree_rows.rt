@@ -7,11 +7,9 @@ ghost use Rattle.graph_model.specs.Presence.{nodes};
 ghost use Rattle.view_trait.specs.Meaning.{IsWithin};
 ghost use Rattle.walk_algorithms.specs.Links.{links_of};
 ghost use Rattle.walk_algorithms.specs.Degrees.{degree_row_of, IsNamed};
-ghost use Rattle.walk_algorithms.specs.Counted.{IsCounted};
 
+use crate::link_ways::link_ways;
 use crate::present_nodes::{Named, sorted_nodes};
-use crate::shown_pairs::shown_pairs;
-use crate::ways::{Ways, count_pairs, linked_nodes};
 use graph_model::Memory;
 use graph_store::NodeId;
 use std::alloc::Global;
@@ -63,19 +61,17 @@ impl DegreeRows {
 }
 
 /// The degrees of a named node.
-fn degree_of<V: View>(view: &V, x: Named<'_>, ways: &[Ways]) -> Degree
-    requires named { IsNamed (V.contents view.now) x }
-    requires ways { IsCounted (links_of (V.contents view.now) (V.world view.now)) (links_of (V.contents view.now) (V.world view.now)) (length (V.contents view.now).nodes) ways.now }
+fn degree_of<V: View>(view: &V, x: Named<'_>) -> Degree
+    requires { IsNamed (V.contents view.now) (links_of (V.contents view.now) (V.world view.now)) x }
     ensures node { result.node ≡ x.entry.node }
     ensures row { degree_row_of (V.contents view.now) result ≡ degree_row (V.world view.now) x.entry.name.now }
 {
     let _few = view.store().nodes();
-    let ways = ways[x.node.0 as usize];
     Degree {
         node: x.node,
-        ins: ways.ins,
-        outs: ways.outs,
-        both: ways.outs + ways.alone,
+        ins: x.ways.ins,
+        outs: x.ways.outs,
+        both: x.ways.outs + x.ways.alone,
     }
 }
 
@@ -84,36 +80,21 @@ fn degrees_of<V: View>(
     alloc: Global,
     view: &V,
     named: &[Named<'_>],
-    ways: &[Ways],
 ) -> Result<DegreeRows, Memory>
-    requires ways { IsCounted (links_of (V.contents view.now) (V.world view.now)) (links_of (V.contents view.now) (V.world view.now)) (length (V.contents view.now).nodes) ways.now }
-    requires numbers { All (IsNamed (V.contents view.now)) named.now }
+    requires { All (IsNamed (V.contents view.now) (links_of (V.contents view.now) (V.world view.now))) named.now }
     ensures rows { IfOk result (λ rows. map (degree_row_of (V.contents view.now)) rows ≡ map (degree_row (V.world view.now)) (map (λ x. x.name.now) named.now)) }
     ensures known { IfOk result (λ rows. All (λ d. d.node.0 < length (V.contents view.now).nodes) rows) }
 {
     let mut rows = Vec::with_capacity(alloc, named.len())?;
     for x in named {
-        rows.push(degree_of(view, *x, ways))?;
+        rows.push(degree_of(view, *x))?;
     }
     Ok(DegreeRows { rows })
 }
 
-/// The ways of all nodes by the pairs that a view shows. The span of each edge is asked once at most.
-fn shown_ways<V: View, L: Ledger>(
-    alloc: Global,
-    view: &V,
-    steps: &mut Steps<L>,
-) -> Result<Vec<Ways>, Memory>
-    ensures ways { IfOk result (λ ways. IsCounted (links_of (V.contents view.now) (V.world view.now)) (links_of (V.contents view.now) (V.world view.now)) (length (V.contents view.now).nodes) ways.items) }
-    ensures cost { (V.world view.now).model ≡ Instants → IsWithin steps.old steps.new (length (V.contents view.now).edges * (V.searches view.now).edges) (length (V.contents view.now).accepted) }
-{
-    let shown = shown_pairs(alloc, view, steps)?;
-    count_pairs(alloc, view, shown.as_slice())
-}
-
 /// The degrees of the present nodes, rising by the bytes of their names. The span of each node and of
-/// each edge is asked once at most. While it counts, it takes 13 bytes for each node of the store,
-/// and a byte for each pair, which remembers whether an edge of the pair is present.
+/// each edge is asked once at most. It takes memory for the present nodes alone, and none for the
+/// other nodes, the pairs and the edges of the store.
 pub fn degrees<V: View, L: Ledger>(
     alloc: Global,
     view: &V,
@@ -123,8 +104,7 @@ pub fn degrees<V: View, L: Ledger>(
     ensures known { IfOk result (λ rows. All (λ d. d.node.0 < length (V.contents view.now).nodes) rows) }
     ensures cost { (V.world view.now).model ≡ Instants → IsWithin steps.old steps.new (length (V.contents view.now).nodes * (V.searches view.now).nodes + length (V.contents view.now).edges * (V.searches view.now).edges) (length (V.contents view.now).accepted) }
 {
-    let ways = shown_ways(alloc, view, steps)?;
-    let linked = linked_nodes(alloc, ways.as_slice())?;
-    let named = sorted_nodes(alloc, view, linked.as_slice(), steps)?;
-    degrees_of(alloc, view, named.as_slice(), ways.as_slice())
+    let ways = link_ways(alloc, view, steps)?;
+    let named = sorted_nodes(alloc, view, &ways, steps)?;
+    degrees_of(alloc, view, named.as_slice())
 }

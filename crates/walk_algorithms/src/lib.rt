@@ -3,6 +3,7 @@
 
 mod degree_rows;
 mod laws;
+mod link_ways;
 mod present_nodes;
 mod shown_pairs;
 mod ways;

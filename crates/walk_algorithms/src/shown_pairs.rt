@@ -1,15 +1,14 @@
 //! Which pairs a view shows.
-ghost use Rattle.std.specs.Prelude.{◌≡◌, ◌<◌, ◌*◌, length, IfOk};
+ghost use Rattle.std.specs.Prelude.{◌≡◌, ◌<◌, ◌*◌, length, position, option_map};
+ghost use Rattle.std.specs.List.{list_any};
 ghost use Rattle.graph_model.specs.declared.events.Model.TheVariants.{Event as Instants};
-ghost use Rattle.graph_store.specs.Ends.{ends_at};
+ghost use Rattle.graph_store.specs.Ends.{ends_at, same_ends};
 ghost use Rattle.graph_store.specs.Linked.{edges_between};
 ghost use Rattle.view_trait.specs.Meaning.{IsWithin};
-ghost use Rattle.walk_algorithms.specs.Links.{pair_shown};
-ghost use Rattle.walk_algorithms.specs.Flags.{AreShown};
+ghost use Rattle.walk_algorithms.specs.Links.{leads_back, links_of, pair_shown};
+ghost use Rattle.walk_algorithms.specs.Taken.{edges_both, turned};
 
-use graph_model::Memory;
 use graph_store::PairId;
-use std::alloc::Global;
 use std::sync::ledger::Ledger;
 use time_column::Steps;
 use view_trait::{View, edge_present};
@@ -30,20 +29,28 @@ fn is_shown<V: View, L: Ledger>(view: &V, pair: PairId, steps: &mut Steps<L>) ->
     false
 }
 
-/// Whether a view shows an edge of each pair, by the numbers of the pairs. The span of each edge is
-/// asked once at most. It takes a byte for each pair of the store.
-pub fn shown_pairs<V: View, L: Ledger>(
-    alloc: Global,
+/// Whether the view shows a pair, and whether it shows the pair of the same nodes the other way
+/// round, of which the number is given, if there is one. A loop is its own. The spans of their edges
+/// are asked once each at most.
+pub fn shown_both<V: View, L: Ledger>(
     view: &V,
+    pair: PairId,
+    back: Option<PairId>,
     steps: &mut Steps<L>,
-) -> Result<Vec<bool>, Memory>
-    ensures shown { IfOk result (λ shown. AreShown (V.contents view.now) (V.world view.now) shown.items) }
-    ensures cost { (V.world view.now).model ≡ Instants → IsWithin steps.old steps.new (length (V.contents view.now).edges * (V.searches view.now).edges) (length (V.contents view.now).accepted) }
+) -> (bool, bool)
+    requires exists { pair.0 < length (V.contents view.now).pairs }
+    requires back { option_map (λ p. p.0) back ≡ position (same_ends (turned (ends_at (V.contents view.now).pairs pair.0))) (V.contents view.now).pairs }
+    ensures there { result.0 ≡ pair_shown (V.contents view.now) (V.world view.now) (ends_at (V.contents view.now).pairs pair.0) }
+    ensures back { result.1 ≡ leads_back (links_of (V.contents view.now) (V.world view.now)) (ends_at (V.contents view.now).pairs pair.0) }
+    ensures cost { (V.world view.now).model ≡ Instants → IsWithin steps.old steps.new (edges_both (V.contents view.now) (ends_at (V.contents view.now).pairs pair.0) * (V.searches view.now).edges) (length (V.contents view.now).accepted) }
 {
-    let pairs = view.store().pairs();
-    let mut shown = vec![in alloc; false; pairs as usize]?;
-    for number in 0..pairs {
-        shown[number as usize] = is_shown(view, PairId(number), steps);
+    let there = is_shown(view, pair, steps);
+    let (src, dst) = view.store().pair_ends(pair);
+    if src.0 == dst.0 {
+        return (there, there);
     }
-    Ok(shown)
+    match back {
+        Some(back) => (there, is_shown(view, back, steps)),
+        None => (there, false),
+    }
 }

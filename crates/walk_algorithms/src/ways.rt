@@ -1,15 +1,12 @@
 //! How many links begin and end at each node.
-ghost use Rattle.std.specs.Prelude.{◌≡◌, ℕ, ◌^◌, ◌<◌, ◌-◌, ◌+◌, length, map, take, slice_set, IfOk};
-ghost use Rattle.std.specs.List.{filter, list_any};
-ghost use Rattle.graph_store.specs.Ends.{same_ends};
-ghost use Rattle.walk_algorithms.specs.Links.{links_of, pair_shown};
-ghost use Rattle.walk_algorithms.specs.Flags.{AreShown, has_way};
-ghost use Rattle.walk_algorithms.specs.Counted.{ways_at, with_in, with_out, IsCounted};
+ghost use Rattle.std.specs.Prelude.{◌≡◌, ℕ, ◌^◌, ◌<◌, ◌+◌, [], OnOk};
+ghost use Rattle.walk_algorithms.specs.Counted.{ways_of, plus, between, has_way, Puts, AreFew, IsJoined};
 
 use graph_model::Memory;
-use graph_store::{NodeId, PairId};
+use graph_store::NodeId;
+use indexmap::IndexMap;
 use std::alloc::Global;
-use view_trait::View;
+use std::marker::Model;
 
 /// How many links end at a node, how many begin there, and how many of those that end there have no
 /// link back.
@@ -21,6 +18,30 @@ pub struct Ways {
 }
 
 impl Ways {
+    /// The ways by the links between a node and one that is not lower or higher than it: whether one
+    /// leads there, and whether one leads back.
+    fn between(there: bool, back: bool) -> Ways
+        ensures { result ≡ between there back }
+    {
+        Ways {
+            ins: back as u32,
+            outs: there as u32,
+            alone: (!there && back) as u32,
+        }
+    }
+
+    /// The ways of both.
+    fn plus(self, more: Ways) -> Ways
+        requires { AreFew (plus self more) }
+        ensures { result ≡ plus self more }
+    {
+        Ways {
+            ins: self.ins + more.ins,
+            outs: self.outs + more.outs,
+            alone: self.alone + more.alone,
+        }
+    }
+
     /// Whether a link begins or ends at the node.
     pub fn any(self) -> bool
         ensures { result ≡ has_way self }
@@ -29,80 +50,72 @@ impl Ways {
     }
 }
 
-/// Counts a link that begins at a node.
-fn count_out(ways: &mut [Ways], n: NodeId)
-    requires within { n.0 < length ways.old }
-    requires few { (ways_at ways.old n.0).outs < 2 ^ 32 - 1 }
-    ensures { ways.new ≡ slice_set ways.old n.0 (with_out (ways_at ways.old n.0)) }
-{
-    let node = &mut ways[n.0 as usize];
-    node.outs += 1;
+/// The ways of the nodes where a link begins or ends. It takes memory for these nodes alone. A
+/// contract sees it as a list of nodes with their ways.
+#[derive(Drop)]
+pub struct WayTable {
+    ways: IndexMap<u32, Ways>,
 }
 
-/// Counts a link that ends at a node, where it is known whether a link leads back.
-fn count_in(ways: &mut [Ways], n: NodeId, back: bool)
-    requires within { n.0 < length ways.old }
-    requires few { (ways_at ways.old n.0).ins < 2 ^ 32 - 1 }
-    requires few_alone { (ways_at ways.old n.0).alone < 2 ^ 32 - 1 }
-    ensures { ways.new ≡ slice_set ways.old n.0 (with_in back (ways_at ways.old n.0)) }
-{
-    let node = &mut ways[n.0 as usize];
-    node.ins += 1;
-    if !back {
-        node.alone += 1;
+impl Model for WayTable {
+    ghost use Rattle.std.specs.Prelude.{ℕ, List};
+    ghost use Rattle.walk_algorithms.specs.declared.ways.Ways.{Ways};
+
+    ghost Value = { List (ℕ × Ways) };
+
+    ghost view = { λ t. t.ways.entries };
+}
+
+impl WayTable {
+    /// No node has a way. It takes no memory.
+    pub fn new(alloc: Global) -> WayTable
+        ensures { result ≡ [] }
+    {
+        WayTable {
+            ways: IndexMap::new(alloc),
+        }
     }
-}
 
-/// Whether a link leads from one node to another, by the flags of the pairs.
-fn leads<V: View>(view: &V, shown: &[bool], src: NodeId, dst: NodeId) -> bool
-    requires shown { AreShown (V.contents view.now) (V.world view.now) shown.now }
-    ensures { result ≡ list_any (same_ends (record { src = src.0; dst = dst.0 })) (links_of (V.contents view.now) (V.world view.now)) }
-{
-    match view.store().pair_of(src, dst) {
-        Some(pair) => shown[pair.0 as usize],
-        None => false,
+    /// The ways of a node.
+    pub fn of(&self, n: NodeId) -> Ways
+        ensures { result ≡ ways_of self.now n.0 }
+    {
+        match self.ways.get(&n.0) {
+            Some(ways) => *ways,
+            None => Ways::between(false, false),
+        }
     }
-}
 
-/// Counts a pair at its source and at its destination, if it is a link.
-fn count_pair<V: View>(view: &V, shown: &[bool], ways: &mut [Ways], pair: PairId)
-    requires exists { pair.0 < length (V.contents view.now).pairs }
-    requires shown { AreShown (V.contents view.now) (V.world view.now) shown.now }
-    requires before { IsCounted (links_of (V.contents view.now) (V.world view.now)) (filter (pair_shown (V.contents view.now) (V.world view.now)) (take pair.0 (V.contents view.now).pairs)) (length (V.contents view.now).nodes) ways.old }
-    ensures { IsCounted (links_of (V.contents view.now) (V.world view.now)) (filter (pair_shown (V.contents view.now) (V.world view.now)) (take (pair.0 + 1) (V.contents view.now).pairs)) (length (V.contents view.now).nodes) ways.new }
-{
-    if !shown[pair.0 as usize] {
-        return;
+    /// Adds to the ways of a node.
+    fn add(&mut self, n: NodeId, more: Ways) -> Result<(), Memory>
+        requires { AreFew (plus (ways_of self.old n.0) more) }
+        ensures { OnOk result (Puts self.old n.0 (plus (ways_of self.old n.0) more) self.new) }
+    {
+        let ways = self.of(n).plus(more);
+        self.ways.insert(n.0, ways)?;
+        Ok(())
     }
-    let store = view.store();
-    let _few = store.pairs();
-    let (src, dst) = store.pair_ends(pair);
-    let back = leads(view, shown, dst, src);
-    count_out(ways, src);
-    count_in(ways, dst, back);
-}
 
-/// The ways of all nodes, by their numbers, where a flag says of each pair whether it is a link.
-pub fn count_pairs<V: View>(alloc: Global, view: &V, shown: &[bool]) -> Result<Vec<Ways>, Memory>
-    requires shown { AreShown (V.contents view.now) (V.world view.now) shown.now }
-    ensures { IfOk result (λ ways. IsCounted (links_of (V.contents view.now) (V.world view.now)) (links_of (V.contents view.now) (V.world view.now)) (length (V.contents view.now).nodes) ways.items) }
-{
-    let none = Ways {
-        ins: 0,
-        outs: 0,
-        alone: 0,
-    };
-    let store = view.store();
-    let mut ways = vec![in alloc; none; store.nodes() as usize]?;
-    for number in 0..store.pairs() {
-        count_pair(view, shown, ways.as_mut_slice(), PairId(number));
+    /// Counts the links between two nodes at both: whether one leads from the first to the second,
+    /// and whether one leads back. A loop leads back itself, and counts once.
+    pub fn count(
+        &mut self,
+        src: NodeId,
+        dst: NodeId,
+        there: bool,
+        back: bool,
+    ) -> Result<(), Memory>
+        requires at_src { AreFew (plus (ways_of self.old src.0) (between there back)) }
+        requires at_dst { AreFew (plus (ways_of self.old dst.0) (between back there)) }
+        ensures { OnOk result (IsJoined src.0 dst.0 there back self.old self.new) }
+    {
+        if !there && !back {
+            return Ok(());
+        }
+        self.add(src, Ways::between(there, back))?;
+        if src.0 == dst.0 {
+            return Ok(());
+        }
+        self.add(dst, Ways::between(back, there))
     }
-    Ok(ways)
-}
-
-/// Whether a link begins or ends at each node, by the ways of the nodes.
-pub fn linked_nodes(alloc: Global, ways: &[Ways]) -> Result<Vec<bool>, Memory>
-    ensures { IfOk result (λ linked. linked.items ≡ map has_way ways.now) }
-{
-    Ok(ways.iter().map(|ways| ways.any()).collect(alloc)?)
 }

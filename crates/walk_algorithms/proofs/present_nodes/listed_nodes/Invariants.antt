@@ -2,6 +2,7 @@ use Rattle.std.proofs.Common.{◌≡◌, ◌*◌, length, map, take}
 use Rattle.std.specs.List.{All, filter}
 use Rattle.graph_model.specs.Presence.{node_present}
 use Rattle.view_trait.specs.Meaning.{IsWithin}
+use Rattle.walk_algorithms.specs.Links.{links_of}
 use Rattle.walk_algorithms.specs.Degrees.{IsNamed}
 use Rattle.walk_algorithms.proofs.present_nodes.listed_nodes.Given as goal
 
@@ -12,6 +13,6 @@ invariant-loop-number g l =
     let world = g.V.View.world l.fn.view in
     record {
       names : map (λ x. x.name.now) l.named.items ≡ filter (node_present world) (take l.number contents.nodes);
-      numbers : All (IsNamed contents) l.named.items;
+      numbers : All (IsNamed contents (links_of contents world)) l.named.items;
       cost : IsWithin l.fn.steps l.steps (l.number * (g.V.View.searches l.fn.view).nodes) (length contents.accepted);
     }
