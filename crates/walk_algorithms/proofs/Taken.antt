@@ -1,24 +1,21 @@
 -- Pairs that are gone over together with their reverses, and how many items have such pairs.
-use Rattle.std.proofs.Common.{◌≡◌, ℕ, suc, ◌+◌, ◌<◌, Bool, true, false, not, ◌&&◌, ◌||◌, List, [], ◌∷◌, ◌++◌, cond, length, take, get_or, get_or-take, refl, sym, ◌∙◌, ap, subst, arith, inl, inr, ⊎_elim}
+use Rattle.std.proofs.Common.{◌≡◌, ℕ, suc, ◌+◌, ◌<◌, Bool, true, false, not, ◌&&◌, ◌||◌, List, [], ◌∷◌, cond, length, take, get_or, get_or-take, refl, sym, ◌∙◌, ap, subst, arith, inl, inr}
 use Rattle.std.specs.Prelude.{◌==◌, ◌≤◌, nat_lt, position, Option, Some, None, if◌then◌else◌}
 use Rattle.std.specs.List.{filter, list_any, prefix_len, AllByRecursion, IsDistinct}
-use Rattle.std.proofs.lemmas.Bool.{cases_Bool, cases_eq, ne_eqb, eq-eqb, eqb-true, and_from, and_parts, or_left, or_right, true≢false, lt-ltb, le-ltb, ltb-true}
+use Rattle.std.proofs.lemmas.Bool.{cases_Bool, eqb-true, and_parts, or_left, lt-ltb, le-ltb, ltb-true}
 use Rattle.std.proofs.lemmas.List.{get_or_default, take_more, take_all}
 use Rattle.std.proofs.lemmas.List.Folds.{list_any-append, list_any_none}
-use Rattle.std.proofs.lemmas.List.Quantifiers.{position-Some}
 use Rattle.std.proofs.lemmas.Map.Keys.{IsDistinct-head, IsDistinct-tail, apart_from_distinct}
-use Rattle.world_laws.proofs.Filters.{filter_none, filter_same}
+use Rattle.world_laws.proofs.Filters.{filter_none}
 use Rattle.world_laws.proofs.Counts.{length_filter_le}
 use Rattle.world_laws.proofs.Members.{any_same, both_true}
 use Rattle.graph_store.specs.declared.pairs.Ends.{Ends}
 use Rattle.graph_store.specs.declared.edges.EdgeParts.{EdgeParts}
 use Rattle.graph_store.specs.Ends.{ends_at, same_ends}
-use Rattle.graph_store.specs.Linked.{edges_between}
 use Rattle.graph_store.specs.Parts.{ends_of}
 use Rattle.graph_store.specs.Contents.{Contents}
 use Rattle.graph_store.specs.Indexed.{IsIndexed}
 use Rattle.graph_store.proofs.EdgeNames.{each_from}
-use Rattle.graph_store.proofs.Readers.{none_found}
 use Rattle.graph_store.proofs.LinkLaws.{same_ends-equal, same_ends-own}
 use Rattle.graph_store.proofs.Listed.{list_any-place}
 use Rattle.walk_algorithms.specs.Taken.{edges_both, edges_until, is_below, is_taken, same_two, turned}

@@ -1,5 +1,5 @@
 -- How many links begin and end at nodes.
-use Rattle.std.specs.Prelude.{ℕ, List, Bool, not, ◌&&◌, ◌||◌, ◌+◌, ◌^◌, ◌<◌, ◌≡◌, ◌==◌, Some, Option, is_some, unwrap_or, nat_eq, nat_lt, false, length, if◌then◌else◌}
+use Rattle.std.specs.Prelude.{ℕ, List, Bool, not, ◌&&◌, ◌||◌, ◌+◌, ◌^◌, ◌<◌, ◌≡◌, ◌==◌, Some, is_some, unwrap_or, nat_eq, nat_lt, false, length, if◌then◌else◌}
 use Rattle.std.specs.Map.{lookup}
 use Rattle.graph_store.specs.declared.pairs.Ends.{Ends}
 use Rattle.walk_algorithms.specs.declared.ways.Ways.{Ways}

@@ -91,8 +91,8 @@ impl WayTable {
         requires { AreFew (plus (ways_of self.old n.0) more) }
         ensures { OnOk result (Puts self.old n.0 (plus (ways_of self.old n.0) more) self.new) }
     {
-        let ways = self.of(n).plus(more);
-        self.ways.insert(n.0, ways)?;
+        let ways = self.ways.entry(n.0)?.or_insert(Ways::between(false, false));
+        *ways = ways.plus(more);
         Ok(())
     }
 

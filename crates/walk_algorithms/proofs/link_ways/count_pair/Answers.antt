@@ -1,13 +1,9 @@
 use Rattle.std.proofs.Common.{◌≡◌, ◌∙◌, ◌<◌, ◌+◌, ◌-◌, ◌*◌, ◌^◌, ap, arith, false, length, subst, sym, take, true}
-use Rattle.std.specs.Prelude.{option_map, position}
-use Rattle.std.specs.Result.{OnOk}
+use Rattle.std.specs.Prelude.{option_map}
 use Rattle.graph_store.specs.Contents.{Contents}
-use Rattle.graph_store.specs.Ends.{ends_at, same_ends}
-use Rattle.graph_store.specs.declared.pairs.Ends.{Ends}
+use Rattle.graph_store.specs.Ends.{ends_at}
 use Rattle.view_trait.specs.Meaning.{IsWithin}
-use Rattle.walk_algorithms.specs.Links.{links_of}
-use Rattle.walk_algorithms.specs.Counted.{IsCounted}
-use Rattle.walk_algorithms.specs.Taken.{edges_both, edges_until, is_below, is_taken, links_until, turned}
+use Rattle.walk_algorithms.specs.Taken.{edges_both, edges_until, is_below, is_taken}
 use Rattle.walk_algorithms.proofs.Counted.{counted_more, counted_same, ends_known, few_dst, few_src, found_turned, on_ok}
 use Rattle.walk_algorithms.proofs.Taken.{edges_more, taken_is}
 use Rattle.walk_algorithms.proofs.link_ways.count_pair.Goals as goal

@@ -1,6 +1,5 @@
 use Rattle.std.proofs.Common.{◌∙◌, ◌≡◌, ◌+◌, ◌*◌, ◌<◌, ap, arith, length, subst, sym}
 use Rattle.graph_store.specs.Contents.{Contents}
-use Rattle.view_trait.specs.Meaning.{IsWithin}
 use Rattle.walk_algorithms.specs.Links.{links_of}
 use Rattle.walk_algorithms.specs.Counted.{IsCounted}
 use Rattle.walk_algorithms.specs.Taken.{edges_until, links_until}

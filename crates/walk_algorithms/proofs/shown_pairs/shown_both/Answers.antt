@@ -1,7 +1,6 @@
-use Rattle.std.proofs.Common.{◌≡◌, ◌∙◌, ◌<◌, ◌+◌, ◌*◌, ap, arith, false, length, subst, sym, true}
-use Rattle.std.specs.Prelude.{◌==◌, option_map, position, None, Some, if◌then◌else◌}
+use Rattle.std.proofs.Common.{◌≡◌, ◌∙◌, ◌+◌, ◌*◌, ap, false, length, subst, sym}
+use Rattle.std.specs.Prelude.{◌==◌, option_map, position, Some, if◌then◌else◌}
 use Rattle.std.proofs.lemmas.Bool.{ne_eqb}
-use Rattle.graph_store.specs.Contents.{Contents}
 use Rattle.graph_store.specs.Ends.{ends_at, same_ends}
 use Rattle.graph_store.specs.Linked.{edges_between}
 use Rattle.graph_store.proofs.LinkLaws.{same_ends-equal}
