@@ -1,1 +1,5 @@
 pub mod Spelled
+pub mod Sorting
+pub mod ShownOnes
+pub mod Placing
+pub mod SpanPlaces

@@ -1,6 +1,8 @@
 //! What a view shows, listed.
 #![tactic(auto)]
 
+mod listing;
 mod moments;
 
+pub use listing::{EventPlace, Listed, Shown, Subject, list_places};
 pub use moments::{Moment, Moments, edge_moments, node_moments};
