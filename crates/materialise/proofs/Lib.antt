@@ -3,3 +3,4 @@ pub mod Sorting
 pub mod ShownOnes
 pub mod Placing
 pub mod SpanPlaces
+pub mod NamedTypes

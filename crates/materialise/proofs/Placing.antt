@@ -132,13 +132,12 @@ others_all w x s k t (e ∷ es) lt h =
 alike_more : (w : World) (e : Entity) (s k : ℕ) (xs : List Event) (es : List Entity) → AllByRecursion (λ x. is_about e x ≡ true) xs → AllByRecursion (λ f. entity_cmp e f ≡ Less) es
     → IsInOrder event_cmp xs → Alike pair_cmp event_cmp (λ (p : EventPlace × Event). p.1) (all_pairs w (s + 1) es) → Alike pair_cmp event_cmp (λ (p : EventPlace × Event). p.1) (pairs_from s k xs ++ all_pairs w (s + 1) es)
 alike_more w e s k [] es own less h rest = rest
-alike_more w e s k (x ∷ xs) es own less h rest =
-    (
-      each_append (AsGreat pair_cmp event_cmp (λ (p : EventPlace × Event). p.1) (place s k x, x)) (pairs_from s (k + 1) xs) (all_pairs w (s + 1) es)
-          (later_from x s k (k + 1) xs (omega arith) h.0)
-          (others_all w x s k (s + 1) es (omega arith) (each_weaker (λ f. entity_cmp e f ≡ Less) (λ f. entity_cmp (entity_of x) f ≡ Less) (λ f m. ap (λ z. entity_cmp z f) (sym (same_entity-exact e (entity_of x) own.0)) ∙ m) es less)),
-      alike_more w e s (k + 1) xs es own.1 less h.1 rest,
-    )
+alike_more w e s k (x ∷ xs) es own less h rest = (
+  each_append (AsGreat pair_cmp event_cmp (λ (p : EventPlace × Event). p.1) (place s k x, x)) (pairs_from s (k + 1) xs) (all_pairs w (s + 1) es)
+      (later_from x s k (k + 1) xs (omega arith) h.0)
+      (others_all w x s k (s + 1) es (omega arith) (each_weaker (λ f. entity_cmp e f ≡ Less) (λ f. entity_cmp (entity_of x) f ≡ Less) (λ f m. ap (λ z. entity_cmp z f) (sym (same_entity-exact e (entity_of x) own.0)) ∙ m) es less)),
+  alike_more w e s (k + 1) xs es own.1 less h.1 rest,
+)
 
 module _ (w : World) (lawful : IsLawful w) where
   own_in_order : (e : Entity) → IsInOrder event_cmp (events_of w e)
@@ -207,8 +206,7 @@ module _ (w : World) (all : List Entity) where
   found_from : (s k : ℕ) (e : Entity) (xs : List Event) → s < length all → entity_at all s ≡ e → Ends (events_of w e) no_event k xs → AllByRecursion IsFoundAt (pairs_from s k xs)
   found_from s k e [] lt is h = tt
   found_from s k e (x ∷ xs) lt is h =
-      let r = head_ends (events_of w e) no_event k x xs h in
-      (
+      let r = head_ends (events_of w e) no_event k x xs h in (
         record {
           shown = lt;
           place = subst (λ z. k < length (events_of w z)) (sym is) r.0;

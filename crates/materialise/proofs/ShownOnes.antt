@@ -106,7 +106,7 @@ module _ (c : Contents) (w : World) (shown : IsShown c w) where
     | inr k ↦ absurd (true≢false (sym h ∙ (appears_is w e ∙ ap nonempty (unknown_shows_nothing c w e shown k))))
   ]
 
-  exactly_kept : (e : Entity) → list_any (same_entity e) (filter (appears w) (all_entities c)) ≡ appears w e
+  pub exactly_kept : (e : Entity) → list_any (same_entity e) (filter (appears w) (all_entities c)) ≡ appears w e
   exactly_kept e =
       is_member-filter (eq_by_cmp_equiv entity_total) (appears w) e (λ x k. ap (appears w) (same_entity-exact e x k)) (all_entities c)
       ∙ both_true (list_any (same_entity e) (all_entities c) && appears w e) (appears w e)

@@ -3,6 +3,8 @@
 
 mod listing;
 mod moments;
+mod types;
 
 pub use listing::{EventPlace, Listed, Shown, Subject, list_places};
 pub use moments::{Moment, Moments, edge_moments, node_moments};
+pub use types::list_types;

@@ -144,7 +144,7 @@ fn push_edge<'s, V: View, L: Ledger>(
 
 /// The nodes and edges that have events in a view, by their numbers, nodes first. Each span is asked
 /// once.
-fn shown_by_number<'s, V: View, L: Ledger>(
+pub(crate) fn shown_by_number<'s, V: View, L: Ledger>(
     alloc: Global,
     view: &'s V,
     steps: &mut Steps<L>,
@@ -284,7 +284,7 @@ pub fn list_places<'s, V: View, L: Ledger>(
     ensures { IfOk result (λ listed. AreListed (V.contents view.now) (V.world view.now) listed.shown.items listed.events.items) }
 {
     let shown = shown_in_order(alloc, view, steps)?;
-    let mut events = places_by_entity(alloc, view, &shown, steps)?;
+    let mut events = places_by_entity(alloc, view, shown.as_slice(), steps)?;
     events.sort_unstable_by(|a, b| a.compare(b));
     Ok(Listed { shown, events })
 }

@@ -11,5 +11,5 @@ returns g c =
     let contents = g.V.View.contents c.args.view.now in
     let world = g.V.View.world c.args.view.now in
     let shown = g.met.V.View.shown c.args.view.now in
-    places_sorted contents world c.in_ok-shown.shown.items c.in_ok-events.events.items c.sort_unstable_by.new.self.items shown.lawful c.in_ok-shown.ensures (c.in_ok-events.ensures ∙ ap (λ xs. all_placed world 0 (entities_of xs)) c.deref.ensures.value) c.sort_unstable_by.ensures.permutation
+    places_sorted contents world c.in_ok-shown.shown.items c.in_ok-events.events.items c.sort_unstable_by.new.self.items shown.lawful c.in_ok-shown.ensures (c.in_ok-events.ensures ∙ ap (λ xs. all_placed world 0 (entities_of xs)) c.as_slice.ensures.value) c.sort_unstable_by.ensures.permutation
     (c.sort_unstable_by.ensures.sorted (λ p q. is_lt (place_cmp p q)) (ranks_by place_total (λ p. p)) (always_returns_same _ (λ a r. is_lt r ≡ is_lt (place_cmp a.0.now a.1.0.now)) _ (λ a r q k. search rules)))
