@@ -4,3 +4,5 @@ pub mod ShownOnes
 pub mod Placing
 pub mod SpanPlaces
 pub mod NamedTypes
+pub mod LiveProps
+pub mod PlacedEvents

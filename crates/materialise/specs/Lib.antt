@@ -1,3 +1,4 @@
 pub mod Moments
 pub mod Listing
 pub mod Types
+pub mod Keyed

@@ -4,7 +4,9 @@
 mod listing;
 mod moments;
 mod types;
+mod world_list;
 
 pub use listing::{EventPlace, Listed, Shown, Subject, list_places};
 pub use moments::{Moment, Moments, edge_moments, node_moments};
 pub use types::list_types;
+pub use world_list::{list_world, listed_event};
