@@ -6,3 +6,4 @@ pub mod SpanPlaces
 pub mod NamedTypes
 pub mod LiveProps
 pub mod PlacedEvents
+pub mod Unrefused
