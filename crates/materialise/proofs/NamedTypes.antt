@@ -8,13 +8,13 @@ use Rattle.std.specs.Cmp.{IsTotalOrder, eq_by_cmp_equiv}
 use Rattle.std.specs.declared.cmp.Ordering.{Ordering}
 use Rattle.std.specs.declared.cmp.Ordering.TheVariants.{Less, Equal, Greater}
 use Rattle.std.specs.Ordering.{is_eq, is_lt, ordering_then}
-use Rattle.std.proofs.lemmas.Bool.{cases_Bool, cond-true, cond-false, true≢false, or_left, or_right, or_cases, eqb-true}
+use Rattle.std.proofs.lemmas.Bool.{cases_Bool, true≢false, or_right, or_cases, eqb-true}
 use Rattle.std.proofs.lemmas.Bool.Decides.{nat_tests}
-use Rattle.std.proofs.lemmas.Cmp.{on_total, then_total, tied_itself}
+use Rattle.std.proofs.lemmas.Cmp.{on_total, then_total}
 use Rattle.std.proofs.lemmas.List.{get_or-set_same, get_or-set_other, length-set, take_more, map-append, length-replicate, get_or-replicate}
 use Rattle.std.proofs.lemmas.List.Elements.{recursion_from_All, filter-append}
 use Rattle.std.proofs.lemmas.List.Folds.{list_any-append}
-use Rattle.std.proofs.lemmas.List.Sorted.{list_any-IsPermutation, IsPermutation-map}
+use Rattle.std.proofs.lemmas.List.Sorted.{list_any-IsPermutation}
 use Rattle.std.proofs.lemmas.Grind.{flat_map-append}
 use Rattle.std.proofs.lemmas.Map.Keys.{IsDistinct-head, IsDistinct-tail, IsDistinct-cons, IsDistinct-from_apart, IsDistinct-IsPermutation}
 use Rattle.std.proofs.lemmas.Map.Made.{is_member-filter}
@@ -29,9 +29,8 @@ use Rattle.graph_model.specs.Names.{name_cmp, same_name, name_total, name_equiv}
 use Rattle.graph_model.specs.Entity.{entity_of, same_entity, is_about, involves}
 use Rattle.graph_model.specs.Spell.{spell}
 use Rattle.graph_model.specs.Rising.{Rises}
-use Rattle.graph_model.specs.World.{World, IsLawful, named, type_cmp, type_of, types_in, events_of, arrange}
+use Rattle.graph_model.specs.World.{World, IsLawful, named, type_cmp, type_of, events_of}
 use Rattle.world_laws.proofs.Filters.{each_weaker, each_append, any_weaker}
-use Rattle.world_laws.proofs.Lawful.{types_in_rise}
 use Rattle.world_laws.proofs.Order.{name_exact, same_name-exact, same_name-refl, same_entity-refl, same_entity-exact, then_equal}
 use Rattle.world_laws.proofs.Members.{both_true}
 use Rattle.world_laws.proofs.Present.{some_passes}
@@ -40,7 +39,7 @@ use Rattle.graph_store.specs.Contents.{Contents, name_at, base_of}
 use Rattle.graph_store.specs.Parts.{parts_at}
 use Rattle.graph_store.proofs.Listed.{list_any-place}
 use Rattle.graph_store.specs.Indexed.{IsIndexed}
-use Rattle.view_trait.specs.Meaning.{IsShown, Shows, knows}
+use Rattle.view_trait.specs.Meaning.{IsShown, knows}
 use Rattle.view_trait.proofs.Pairs.{same_number, edge_number}
 use Rattle.view_trait.proofs.NodePairs.{any_map}
 use Rattle.view_trait.proofs.Entities.{all_entities}
@@ -48,8 +47,8 @@ use Rattle.materialise.specs.declared.listing.Shown.{Shown}
 use Rattle.materialise.specs.declared.types.TypedNode.{TypedNode}
 use Rattle.materialise.specs.Listing.{IsPart, entities_of, appears}
 use Rattle.materialise.specs.Types.{AreMarked, types_listed, typed_node}
-use Rattle.materialise.proofs.Sorting.{rises_sorted, rises_keys, distinct_keys, is_eq-Equal, distinct_kept, nonempty, any_is}
-use Rattle.materialise.proofs.ShownOnes.{entity_shown, appears_is, appears_known, exactly_kept}
+use Rattle.materialise.proofs.Sorting.{rises_sorted, rises_keys, distinct_keys, is_eq-Equal, distinct_kept, nonempty}
+use Rattle.materialise.proofs.ShownOnes.{entity_shown, appears_is, exactly_kept}
 
 -- ---- flags
 

@@ -1,17 +1,15 @@
 -- Places of events, one entity after another, and put in order.
-use Rattle.std.proofs.Common.{◌≡◌, ℕ, zero, suc, ◌+◌, ◌<◌, ℤ, Bool, true, false, List, [], ◌∷◌, ◌++◌, cond, length, map, take, get_or, refl, sym, ◌∙◌, ap, subst, arith, append-nil, append_assoc}
-use Rattle.std.specs.List.{filter, list_any, flat_map, All, AllByRecursion}
+use Rattle.std.proofs.Common.{◌≡◌, ℕ, suc, ◌+◌, ◌<◌, Bool, true, false, List, [], ◌∷◌, ◌++◌, cond, length, map, get_or, refl, sym, ◌∙◌, ap, subst, arith, append-nil, append_assoc}
+use Rattle.std.specs.List.{list_any, flat_map, All, AllByRecursion}
 use Rattle.std.specs.List.Sorted.{IsPermutation, IsSortedBy}
 use Rattle.std.specs.Cmp.{IsTotalOrder, nat_cmp_is}
 use Rattle.std.specs.FinMap.{nat_cmp-IsAntisymmetric, int_cmp-IsAntisymmetric}
 use Rattle.std.specs.declared.cmp.Ordering.{Ordering}
 use Rattle.std.specs.declared.cmp.Ordering.TheVariants.{Less, Equal, Greater}
-use Rattle.std.specs.Ordering.{is_eq, is_lt, is_gt, ordering_then, int_cmp, nat_cmp}
-use Rattle.std.proofs.lemmas.Bool.{cases_Bool, cond-true, cond-false, true≢false}
+use Rattle.std.specs.Ordering.{is_lt, is_gt, ordering_then, int_cmp, nat_cmp}
 use Rattle.std.proofs.lemmas.Cmp.{nat_cmp_total, int_cmp_total, on_total, then_total, tied_itself}
-use Rattle.std.proofs.lemmas.List.{map-append, take_more, length-map}
+use Rattle.std.proofs.lemmas.List.{map-append, length-map}
 use Rattle.std.proofs.lemmas.List.Elements.{All-from_recursion}
-use Rattle.std.proofs.Math.Seq.{take-length}
 use Rattle.graph_model.specs.declared.events.Entity.{Entity}
 use Rattle.graph_model.specs.declared.events.Entity.TheVariants.{Node}
 use Rattle.graph_model.specs.declared.events.Event.{Event}
@@ -20,17 +18,16 @@ use Rattle.graph_model.specs.Rising.{in_order, IsInOrder, Rises}
 use Rattle.graph_model.specs.World.{World, IsLawful, event_cmp, arrange, events_of}
 use Rattle.world_laws.proofs.Filters.{each_weaker, each_append, kept_pass}
 use Rattle.world_laws.proofs.InOrder.{each_in_order, IsInOrder-filter, IsInOrder-in_order, in_order_already}
-use Rattle.world_laws.proofs.Order.{event_total, entity_total, then_equal, same_entity-exact}
+use Rattle.world_laws.proofs.Order.{event_total, then_equal, same_entity-exact}
 use Rattle.world_laws.proofs.Listed.{about-arrange, about-append, about_none, fixed_by_entities, in_order_from_arranged}
 use Rattle.world_laws.proofs.Carried.{about_one}
 use Rattle.time_history.proofs.Segments.{each_in_map}
 use Rattle.graph_store.specs.Contents.{Contents}
-use Rattle.view_trait.specs.Meaning.{IsShown}
 use Rattle.materialise.specs.declared.listing.Shown.{Shown}
 use Rattle.materialise.specs.declared.listing.EventPlace.{EventPlace}
 use Rattle.materialise.specs.Listing.{entities_of, appears, AreShown, no_event, event_at, entity_at, event_placed, IsPlaced, AreListed, place_cmp, placed_from, all_placed}
 use Rattle.materialise.proofs.Sorting.{AsGreat, Alike, in_order_mapped, sorted_fixed}
-use Rattle.materialise.proofs.ShownOnes.{entity_shown, appears_is}
+use Rattle.materialise.proofs.ShownOnes.{entity_shown}
 
 -- ---- the order of places
 

@@ -1,12 +1,10 @@
 -- The nodes and edges of a store that have events in a world, put in order.
-use Rattle.std.proofs.Common.{◌≡◌, ℕ, ◌+◌, ◌≤◌, Bool, true, false, ◌&&◌, ◌||◌, List, [], ◌∷◌, ◌++◌, cond, length, map, take, get_or, ◌<◌, append_assoc, Option, Some, None, refl, sym, ◌∙◌, ap, subst, arith, inl, inr, append-nil, length-append}
+use Rattle.std.proofs.Common.{◌≡◌, ℕ, ◌+◌, ◌≤◌, Bool, true, false, ◌&&◌, List, [], ◌∷◌, ◌++◌, cond, length, map, take, get_or, ◌<◌, append_assoc, Option, Some, None, refl, sym, ◌∙◌, ap, subst, arith, inl, inr, append-nil, length-append}
 use Rattle.std.specs.Prelude.{is_some}
 use Rattle.std.specs.List.{filter, list_any, last_or, IsDistinct, All, AllByRecursion}
 use Rattle.std.specs.List.Sorted.{IsPermutation, IsSortedBy}
 use Rattle.std.specs.Cmp.{IsTotalOrder, eq_by_cmp_equiv}
-use Rattle.std.specs.declared.cmp.Ordering.{Ordering}
-use Rattle.std.specs.declared.cmp.Ordering.TheVariants.{Less}
-use Rattle.std.specs.Ordering.{is_eq, is_lt}
+use Rattle.std.specs.Ordering.{is_lt}
 use Rattle.std.proofs.lemmas.Bool.{cases_Bool, cond-true, cond-false, and_parts, and_from, or_left, or_right, true≢false}
 use Rattle.std.proofs.lemmas.Cmp.{on_total}
 use Rattle.std.proofs.lemmas.List.{map-append, length-map, get_or-map, take_more}
@@ -18,10 +16,8 @@ use Rattle.std.proofs.lemmas.Map.Made.{is_member-filter, length-le_from_is_membe
 use Rattle.std.proofs.Math.Seq.{take-length}
 use Rattle.graph_model.specs.declared.events.Entity.{Entity}
 use Rattle.graph_model.specs.declared.events.Entity.TheVariants.{Node, Edge}
-use Rattle.graph_model.specs.declared.events.Event.{Event}
 use Rattle.graph_model.specs.Entity.{entity_cmp, same_entity, entity_of, is_about}
 use Rattle.graph_model.specs.World.{World, events_of}
-use Rattle.world_laws.proofs.Filters.{filter_none}
 use Rattle.world_laws.proofs.Order.{entity_total, same_entity-refl, same_entity-exact}
 use Rattle.world_laws.proofs.Members.{both_true}
 use Rattle.world_laws.proofs.Named.{each_fails}

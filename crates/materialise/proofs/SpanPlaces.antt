@@ -1,9 +1,8 @@
 -- The places of the events of a span.
-use Rattle.std.proofs.Common.{◌≡◌, ℕ, ◌+◌, ◌-◌, ◌<◌, ◌≤◌, ℤ, Bool, true, false, List, [], ◌∷◌, ◌++◌, cond, length, map, take, drop, slice_range, get_or, refl, sym, ◌∙◌, ap, subst, arith, append_assoc, append-nil}
+use Rattle.std.proofs.Common.{◌≡◌, ℕ, ◌+◌, ◌-◌, ◌<◌, ◌≤◌, ℤ, Bool, true, false, List, [], ◌∷◌, ◌++◌, cond, length, map, take, drop, slice_range, get_or, refl, sym, ◌∙◌, ap, arith, append_assoc}
 use Rattle.std.proofs.lemmas.List.{length-map, length-take, length-drop, take_more, length-take-le, get_or-map}
 use Rattle.std.proofs.Math.Seq.{take-length}
 use Rattle.graph_model.specs.declared.events.Entity.{Entity}
-use Rattle.graph_model.specs.declared.events.Entity.TheVariants.{Node}
 use Rattle.graph_model.specs.declared.events.Event.{Event}
 use Rattle.graph_model.specs.Compare.{live}
 use Rattle.graph_model.specs.Window.{carried}
@@ -13,7 +12,7 @@ use Rattle.time_history.specs.declared.span.Span.{Span}
 use Rattle.time_history.specs.Updates.{update_at}
 use Rattle.time_history.specs.Told.{event_told, events_told, Fits}
 use Rattle.time_history.specs.Spans.{IsSpan, spelled}
-use Rattle.time_history.proofs.Segments.{slice_split, slice_map, slice_nothing}
+use Rattle.time_history.proofs.Segments.{slice_split, slice_map}
 use Rattle.time_history.proofs.Alive.{slice_one}
 use Rattle.time_history.proofs.Last.{carried_one}
 use Rattle.graph_store.specs.Contents.{Contents, key_names_for}
@@ -21,7 +20,7 @@ use Rattle.view_trait.specs.Meaning.{Tells, Shows}
 use Rattle.view_trait.proofs.Found.{spelled_is}
 use Rattle.materialise.specs.declared.listing.Shown.{Shown}
 use Rattle.materialise.specs.declared.listing.EventPlace.{EventPlace}
-use Rattle.materialise.specs.Listing.{entities_of, entity_at, placed_from, all_placed}
+use Rattle.materialise.specs.Listing.{entities_of, placed_from, all_placed}
 use Rattle.materialise.proofs.ShownOnes.{entity_shown}
 use Rattle.materialise.proofs.Placing.{placed_push, all_push}
 

@@ -1,14 +1,12 @@
 -- The events and types of a lawful world within the limits, taken one after another, are not refused.
-use Rattle.std.proofs.Common.{◌≡◌, ℕ, zero, suc, ◌+◌, ◌<◌, ◌≤◌, Bool, true, false, not, ◌||◌, List, [], ◌∷◌, ◌++◌, cond, length, map, take, drop, get_or, Option, Some, None, refl, sym, ◌∙◌, ap, subst, arith, inl, inr, length-append, append-nil, nat_lt}
-use Rattle.std.specs.Prelude.{option_map, is_some}
+use Rattle.std.proofs.Common.{◌≡◌, ℕ, zero, suc, ◌+◌, ◌<◌, ◌≤◌, Bool, true, false, not, ◌||◌, List, [], ◌∷◌, ◌++◌, cond, length, map, take, drop, get_or, None, refl, sym, ◌∙◌, ap, subst, arith, inl, inr, length-append, append-nil, nat_lt}
+use Rattle.std.specs.Prelude.{option_map}
 use Rattle.std.specs.Bool.{beq}
 use Rattle.std.specs.Option.{option_map_or}
-use Rattle.std.specs.List.{filter, find, list_any, list_all, flat_map, AllByRecursion}
-use Rattle.std.specs.declared.cmp.Ordering.{Ordering}
+use Rattle.std.specs.List.{find, list_any, list_all, flat_map, AllByRecursion}
 use Rattle.std.specs.declared.cmp.Ordering.TheVariants.{Less, Equal, Greater}
 use Rattle.std.specs.Ordering.{is_eq, is_lt, is_gt, ordering_reverse}
-use Rattle.std.specs.Cmp.{eq_by_cmp_equiv}
-use Rattle.std.proofs.lemmas.Bool.{cases_Bool, cond-true, cond-false, and_parts, or_left, or_right, or_cases, true≢false}
+use Rattle.std.proofs.lemmas.Bool.{and_parts, or_left, or_right, or_cases}
 use Rattle.std.proofs.lemmas.Bool.Decides.{nat_tests}
 use Rattle.std.proofs.lemmas.List.{map-append, take_more, take-append-drop}
 use Rattle.std.proofs.lemmas.List.Elements.{filter-append}
@@ -17,19 +15,16 @@ use Rattle.std.proofs.lemmas.Grind.{flat_map-append}
 use Rattle.std.proofs.lemmas.Map.Made.{length-le_from_is_member}
 use Rattle.graph_model.specs.declared.properties.Value.{Value}
 use Rattle.graph_model.specs.declared.properties.Value.TheVariants.{Int, Flag, Text}
-use Rattle.graph_model.specs.declared.properties.ValueType.{ValueType}
 use Rattle.graph_model.specs.declared.events.Event.{Event}
-use Rattle.graph_model.specs.declared.events.Model.{Model}
 use Rattle.graph_model.specs.ValueKind.{value_type, same_value_type}
 use Rattle.graph_model.specs.Names.{name_cmp, same_name, name_total, name_equiv}
 use Rattle.graph_model.specs.Props.{prop_value}
 use Rattle.graph_model.specs.Entity.{entity_of, is_node, names_in, props_of}
-use Rattle.graph_model.specs.Refusal.{RecordRefusal, Deletion, KeyType, Retype, Limit}
 use Rattle.graph_model.specs.Rising.{rising, put_rising, Rises}
-use Rattle.graph_model.specs.Accepting.{Counted, Events, Nodes, Layers, NodeKeys, EdgeKeys, Types, count_of, limit_of, distinct, kept_type, node_events, edge_events, properties_of, key_names, node_names, layer_names, layers_in, type_names, is_of_other_type, is_over, alike, mistyped, all_counted, passed_limit, event_refusal, is_other_type, type_refusal}
-use Rattle.graph_model.specs.World.{World, allows, same_type, props_agree, types_agree, all_typed, type_cmp, type_of, put_type}
+use Rattle.graph_model.specs.Accepting.{Counted, Events, Nodes, Layers, NodeKeys, EdgeKeys, Types, count_of, limit_of, distinct, node_events, edge_events, properties_of, key_names, node_names, layer_names, layers_in, type_names, is_of_other_type, alike, mistyped, passed_limit, event_refusal, type_refusal}
+use Rattle.graph_model.specs.World.{World, allows, same_type, props_agree, types_agree, type_cmp, type_of, put_type}
 use Rattle.world_laws.proofs.Filters.{each_weaker, each_append, each_kept, each_two, kept_pass}
-use Rattle.world_laws.proofs.Order.{name_exact, same_name-refl, same_name-exact}
+use Rattle.world_laws.proofs.Order.{name_exact}
 use Rattle.world_laws.proofs.Lawful.{each_passes}
 use Rattle.world_laws.proofs.RisingItems.{any_rising, Rises-rising}
 use Rattle.time_history.proofs.Held.{each_at}

@@ -1,5 +1,5 @@
 -- Worlds that a store has room for.
-use Rattle.std.specs.Prelude.{List, ◌≤◌}
+use Rattle.std.specs.Prelude.{◌≤◌}
 use Rattle.graph_model.specs.Accepting.{Counted, count_of, limit_of}
 use Rattle.graph_model.specs.World.{World, IsLawful}
 

@@ -1,4 +1,4 @@
-use Rattle.std.proofs.Common.{◌≡◌, ◌∙◌, [], ap, subst, sym}
+use Rattle.std.proofs.Common.{◌∙◌, [], subst, sym}
 use Rattle.graph_model.specs.World.{World, base}
 use Rattle.world_laws.proofs.Base.{base_of_itself}
 use Rattle.materialise.specs.Storable.{IsStorable}

@@ -1,4 +1,4 @@
-use Rattle.std.proofs.Common.{◌≡◌, ◌∙◌, ◌<◌, length, arith, ap, sym}
+use Rattle.std.proofs.Common.{◌∙◌, ◌<◌, length, arith, ap, sym}
 use Rattle.std.proofs.lemmas.Option.{get_or_from_slice_get}
 use Rattle.graph_model.specs.Accepting.{type_refusal}
 use Rattle.graph_model.specs.World.{World, put_type}

@@ -1,4 +1,4 @@
-use Rattle.std.proofs.Common.{◌≡◌, ◌∙◌, ◌<◌, ◌++◌, [], cond, false, length, get_or, ap, sym, arith}
+use Rattle.std.proofs.Common.{◌≡◌, ◌∙◌, ◌<◌, ◌++◌, [], cond, false, length, get_or, ap, arith}
 use Rattle.graph_model.specs.World.{named}
 use Rattle.graph_store.specs.Contents.{Contents, name_at}
 use Rattle.materialise.specs.Types.{types_listed, typed_node}
