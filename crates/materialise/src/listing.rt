@@ -275,7 +275,7 @@ fn places_by_entity<V: View, L: Ledger>(
 }
 
 /// The nodes and edges that have events in a view, and the places of all events in canonical order.
-/// Each span is asked once. An event takes 16 bytes, and a node or an edge 48.
+/// Each span is asked once. An event takes 16 bytes while it is listed.
 pub fn list_places<'s, V: View, L: Ledger>(
     alloc: Global,
     view: &'s V,
