@@ -1,5 +1,5 @@
 -- The present edges of a world, listed by their numbers and then sorted.
-use Rattle.std.proofs.Common.{◌≡◌, ℕ, zero, suc, ◌+◌, ◌<◌, true, false, ◌&&◌, List, [], ◌∷◌, ◌++◌, length, map, take, get_or, refl, sym, ◌∙◌, ap, subst, arith}
+use Rattle.std.proofs.Common.{◌≡◌, ℕ, zero, suc, ◌+◌, ◌<◌, Bool, true, false, ◌&&◌, List, [], ◌∷◌, ◌++◌, length, map, take, get_or, refl, sym, ◌∙◌, ap, subst, arith}
 use Rattle.std.specs.Prelude.{◌==◌, IsPermutation, IsSortedBy, slice_get, Some}
 use Rattle.std.specs.List.{filter, list_any, IsDistinct, AllByRecursion}
 use Rattle.std.specs.declared.cmp.Ordering.{Ordering}
@@ -7,7 +7,8 @@ use Rattle.std.specs.declared.cmp.Ordering.TheVariants.{Less, Equal, Greater}
 use Rattle.std.specs.Ordering.{is_eq, is_lt, is_ne, ordering_reverse, ordering_then}
 use Rattle.std.proofs.lemmas.Bool.{and_from}
 use Rattle.std.proofs.lemmas.Bool.Decides.{nat_tests}
-use Rattle.std.proofs.lemmas.List.{get_or-map, length-map, map-append}
+use Rattle.std.proofs.lemmas.List.{get_or-map, length-map, map-append, take_more}
+use Rattle.std.proofs.lemmas.List.Elements.{filter-append}
 use Rattle.std.proofs.lemmas.List.MinMax.{ranks_by}
 use Rattle.std.proofs.lemmas.List.Sorted.{sorted_far, list_any-IsPermutation}
 use Rattle.std.proofs.lemmas.Map.Keys.{IsDistinct-from_apart, IsDistinct-IsPermutation, apart_from_distinct}
@@ -29,7 +30,7 @@ use Rattle.graph_store.proofs.EdgeNames.{each_from}
 use Rattle.graph_store.proofs.Listed.{one_place, list_any-place}
 use Rattle.view_trait.specs.Meaning.{IsShown, edge_named}
 use Rattle.view_trait.proofs.Pairs.{present_number, same_number}
-use Rattle.walk_algorithms.proofs.Keyed.{any_same_kept, filter_more}
+use Rattle.walk_algorithms.proofs.Keyed.{any_same_kept}
 use Rattle.walk_algorithms.proofs.Numbers.{any_map, distinct_filter, distinct_map}
 use Rattle.view_answers.specs.Edges.{edge_names}
 
@@ -60,6 +61,10 @@ present_listed c w h edge k =
     let r = present_number c w edge h k in
     let n = length-map c.edges (edge_name c.nodes c.layers) in
     list_any-place (same_edge edge) (edge_names c) r.0 edge (let lt = r.1 in omega (arith, n)) (ap (same_edge edge) (named_at c r.0 edge r.1 ∙ r.2) ∙ same_edge-refl edge)
+
+-- one item more of a list that passes a test, or does not
+filter_more : {X : Type 0} (p : X → Bool) (xs : List X) (i : ℕ) (d : X) → i < length xs → filter p (take (i + 1) xs) ≡ filter p (take i xs) ++ filter p (get_or xs i d ∷ [])
+filter_more p xs i d below = ap (filter p) (take_more xs i d below) ∙ filter-append p (take i xs) (get_or xs i d ∷ [])
 
 -- the present ones of the first edges, with one more
 pub listed_more : (c : Contents) (w : World) (e : ℕ) (old new : List EdgeName) → e < length c.edges → old ≡ filter (edge_present w) (take e (edge_names c))
