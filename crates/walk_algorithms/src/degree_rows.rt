@@ -76,11 +76,7 @@ fn degree_of<V: View>(view: &V, x: Named<'_>) -> Degree
 }
 
 /// The degrees of named nodes, in their order.
-fn degrees_of<V: View>(
-    alloc: Global,
-    view: &V,
-    named: &[Named<'_>],
-) -> Result<DegreeRows, Memory>
+fn degrees_of<V: View>(alloc: Global, view: &V, named: &[Named<'_>]) -> Result<DegreeRows, Memory>
     requires { All (IsNamed (V.contents view.now) (links_of (V.contents view.now) (V.world view.now))) named.now }
     ensures rows { IfOk result (λ rows. map (degree_row_of (V.contents view.now)) rows ≡ map (degree_row (V.world view.now)) (map (λ x. x.name.now) named.now)) }
     ensures known { IfOk result (λ rows. All (λ d. d.node.0 < length (V.contents view.now).nodes) rows) }

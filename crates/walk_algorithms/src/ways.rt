@@ -98,13 +98,7 @@ impl WayTable {
 
     /// Counts the links between two nodes at both: whether one leads from the first to the second,
     /// and whether one leads back. A loop leads back itself, and counts once.
-    pub fn count(
-        &mut self,
-        src: NodeId,
-        dst: NodeId,
-        there: bool,
-        back: bool,
-    ) -> Result<(), Memory>
+    pub fn count(&mut self, src: NodeId, dst: NodeId, there: bool, back: bool) -> Result<(), Memory>
         requires at_src { AreFew (plus (ways_of self.old src.0) (between there back)) }
         requires at_dst { AreFew (plus (ways_of self.old dst.0) (between back there)) }
         ensures { OnOk result (IsJoined src.0 dst.0 there back self.old self.new) }
