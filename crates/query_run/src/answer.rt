@@ -1,5 +1,5 @@
 //! Answers to queries.
-ghost use Rattle.std.specs.Prelude.{◌≡◌, ◌≤◌, ◌+◌, ◌++◌, true, false, IsTrue, IsErrOf, OnOk};
+ghost use Rattle.std.specs.Prelude.{◌≡◌, ◌≤◌, ◌+◌, ◌++◌, ◌↔◌, true, false, IsTrue, IsErrOf, OnOk, OnErr};
 ghost use Rattle.std.specs.List.{list_all};
 ghost use Rattle.graph_model.specs.Range.{op_in_range, query_in_range};
 ghost use Rattle.graph_model.specs.RowText.{rows_text};
@@ -12,7 +12,7 @@ ghost use Rattle.query_run.specs.Cost.{is_counted_ask, is_counted_query, query_s
 ghost use Rattle.query_run.specs.Rows.{answer_block};
 
 use crate::answered::answers;
-use crate::rows::add_query;
+use crate::rows::{add_query, append};
 use event_rows::RowWriter;
 use graph_model::{Memory, Query};
 use graph_store::Store;
@@ -61,31 +61,32 @@ fn add_seen_part<L: Ledger>(
     add_part(alloc, out, &view, &query.ask, steps)
 }
 
-/// Adds the block of a query: its row, and the part of each world that it asks about. The names that
+/// Appends the block of a query: its row, and the part of each world that it asks about. The names that
 /// its views give are looked up once, and its worlds are read in place.
 ///
 /// # Errors
-/// `Unbuilt` where the query is not answered yet, and then nothing was added. Want of memory loses the whole text.
+/// `Unbuilt` where the query is not answered yet, or `Memory`. After either, `out` is as it was.
 pub fn answer_query<L: Ledger>(
     alloc: Global,
     store: &Store,
     query: &Query,
-    line: u64,
-    out: &mut RowWriter,
+    line: u32,
+    out: &mut Vec<u8>,
     steps: &mut Steps<L>,
 ) -> Result<(), AnswerFault>
     requires { IsTrue (query_in_range query.now) }
-    ensures rows { OnOk result (out.new ≡ out.old ++ rows_text (answer_block (base_of store.now) line query.now)) }
-    ensures answered { OnOk result (is_answered query.now ≡ true) }
-    ensures unbuilt { IsErrOf result AnswerFault.Unbuilt → is_answered query.now ≡ false }
-    ensures unchanged { IsErrOf result AnswerFault.Unbuilt → out.new ≡ out.old }
+    ensures rows { OnOk result (out.new.items ≡ out.old.items ++ rows_text (answer_block (base_of store.now) line query.now)) }
+    ensures unbuilt { IsErrOf result AnswerFault.Unbuilt ↔ (is_answered query.now ≡ false) }
+    ensures unchanged { OnErr result (out.new.items ≡ out.old.items) }
     ensures unread { is_answered query.now ≡ false → steps.new ≡ steps.old }
     ensures cost { IsTrue (is_counted_query store.now.model query.now) → steps.new ≤ steps.old + query_steps (size_of store.now) query.now }
 {
     if !answers(query) {
         return Err(AnswerFault::Unbuilt);
     }
-    add_query(out, line, &query.ask, 1)?;
-    add_seen_part(alloc, out, store, query, steps)?;
+    let mut block = RowWriter::new(alloc);
+    add_query(&mut block, line, &query.ask, 1)?;
+    add_seen_part(alloc, &mut block, store, query, steps)?;
+    append(out, block)?;
     Ok(())
 }

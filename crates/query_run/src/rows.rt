@@ -1,5 +1,5 @@
 // Rows of text.
-ghost use Rattle.std.specs.Prelude.{◌≡◌, ◌++◌, OnOk};
+ghost use Rattle.std.specs.Prelude.{◌≡◌, ◌++◌, OnOk, OnErr};
 ghost use Rattle.csv.specs.Writing.{default_writer, row_text};
 ghost use Rattle.graph_model.specs.Output.{ask_word as word_of_ask, graph_row, model_word as word_of_model, query_row, refused_query_row, refused_row};
 ghost use Rattle.query_run.specs.Causes.{query_refusal_of};
@@ -54,6 +54,15 @@ pub fn ask_word(ask: &Ask) -> &'static [u8]
     }
 }
 
+/// Appends rows to a text, which stays as it is where memory is wanting.
+pub fn append(text: &mut Vec<u8>, rows: RowWriter) -> Result<(), Memory>
+    ensures ok { OnOk result (text.new.items ≡ text.old.items ++ rows) }
+    ensures err { OnErr result (text.new.items ≡ text.old.items) }
+{
+    let rows = rows.into_text()?;
+    text.extend_from_slice(rows.as_slice())
+}
+
 /// Adds the row of a refused record.
 pub fn add_refused(out: &mut RowWriter, refusal: RefusedRecord) -> Result<(), Memory>
     ensures { OnOk result (out.new ≡ out.old ++ row_text default_writer (refused_row (refused_of refusal))) }
@@ -86,7 +95,7 @@ pub fn add_graph(
 }
 
 /// Adds the row of a query that is answered on so many worlds.
-pub fn add_query(out: &mut RowWriter, line: u64, ask: &Ask, worlds: u32) -> Result<(), Memory>
+pub fn add_query(out: &mut RowWriter, line: u32, ask: &Ask, worlds: u32) -> Result<(), Memory>
     ensures { OnOk result (out.new ≡ out.old ++ row_text default_writer (query_row line ask.now worlds)) }
 {
     out.add_fields(&[
@@ -98,7 +107,7 @@ pub fn add_query(out: &mut RowWriter, line: u64, ask: &Ask, worlds: u32) -> Resu
 }
 
 /// Adds the row of a refused query.
-pub fn add_refused_query(out: &mut RowWriter, line: u64, cause: QueryCause) -> Result<(), Memory>
+pub fn add_refused_query(out: &mut RowWriter, line: u32, cause: QueryCause) -> Result<(), Memory>
     ensures { OnOk result (out.new ≡ out.old ++ row_text default_writer (refused_query_row line (query_refusal_of cause))) }
 {
     out.add_fields(&[

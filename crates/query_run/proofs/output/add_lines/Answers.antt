@@ -26,7 +26,7 @@ loop-rest-preserved g c =
     let both : c.if-clean.clean ≡ (c.loop-rest.clean && c.in_ok-line_clean.line_clean) =
     elim c.if-clean.branch [ then-clean w ↦ rw (w.clean-is, w.if-clean.true) refl | else-clean w ↦ rw (w.clean-is, w.if-clean.false) refl ] in
     record {
-      rows = line_blocks-more (base_of store) c.loop-rest.number left more line c.loop-rest.out c.add_line.new.out _ c.first_line.ensures.lines c.in_ok-line_clean.ensures.rows c.loop-rest.invariant.rows;
+      rows = line_blocks-more (base_of store) c.loop-rest.number left more line c.loop-rest.out.items c.add_line.new.out.items _ c.first_line.ensures.lines c.in_ok-line_clean.ensures.rows c.loop-rest.invariant.rows;
       clean = clean-more (is_clean_line is_answered) left more line c.loop-rest.clean c.in_ok-line_clean.line_clean c.if-clean.clean (list_all (is_clean_line is_answered) (lines_of c.args.script.now)) c.first_line.ensures.lines c.in_ok-line_clean.ensures.clean both c.loop-rest.invariant.clean;
       number = omega arith;
       counted = StepsLeft-more store.model (size_of store) (lines_of c.args.script.now) left more line c.args.steps.now c.loop-rest.steps c.add_line.new.steps c.first_line.ensures.lines c.add_line.ensures.cost c.loop-rest.invariant.counted;

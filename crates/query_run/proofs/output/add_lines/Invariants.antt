@@ -12,7 +12,7 @@ use Rattle.query_run.proofs.output.add_lines.Given as goal
 
 abbrev pub invariant-loop-rest : goal.invariant-loop-rest
 invariant-loop-rest g l = record {
-  rows : l.out ++ rows_text (line_blocks (base_of l.store) l.number (lines_of l.rest)) ≡ l.fn.out ++ rows_text (line_blocks (base_of l.store) 1 (lines_of l.script));
+  rows : l.out.items ++ rows_text (line_blocks (base_of l.store) l.number (lines_of l.rest)) ≡ l.fn.out.items ++ rows_text (line_blocks (base_of l.store) 1 (lines_of l.script));
   clean : (l.clean && list_all (is_clean_line is_answered) (lines_of l.rest)) ≡ list_all (is_clean_line is_answered) (lines_of l.script);
   number : l.number + length l.rest ≤ length l.script + 1;
   counted : StepsLeft l.store.model (size_of l.store) (lines_of l.script) (lines_of l.rest) l.fn.steps l.steps;
