@@ -1,0 +1,14 @@
+-- Worlds that are printed as rows and read again.
+use Rattle.std.specs.Prelude.{◌≤◌, IsTrue}
+use Rattle.std.specs.List.{AllByRecursion}
+use Rattle.graph_model.specs.Accepting.{Counted, count_of, limit_of}
+use Rattle.graph_model.specs.World.{World, IsLawful}
+use Rattle.event_rows.specs.Sayable.{IsSayable, IsSayableType, are_bounds}
+
+-- a lawful world within the limits of a file, whose bounds, types and events rows can say
+pub record IsPrintable (w : World) : Type 0 where
+  pub lawful : IsLawful w
+  pub limits : (counted : Counted) → count_of counted w.events w.types ≤ limit_of counted
+  pub bounds : IsTrue (are_bounds w.bounds)
+  pub types : AllByRecursion IsSayableType w.types
+  pub events : AllByRecursion (IsSayable w.bounds) w.events

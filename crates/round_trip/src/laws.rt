@@ -1,0 +1,12 @@
+//! Laws of worlds that are printed and read again. The functions do nothing: their contracts are the laws.
+ghost use Rattle.std.specs.Prelude.{◌≡◌, []};
+ghost use Rattle.graph_model.specs.Reading.{base_world, reading};
+ghost use Rattle.graph_model.specs.RowText.{world_text};
+ghost use Rattle.graph_model.specs.World.{World};
+ghost use Rattle.round_trip.specs.Printable.{IsPrintable};
+
+/// The text of a world that can be printed, read under its model, has no refused record; it says the world's bounds, types and events, and its base world is the world.
+pub fn a_printed_world_is_read_back()
+    ensures said { (w : World) → IsPrintable w → reading w.model (world_text w) ≡ record { bounds = w.bounds; accepted = w.events; types = w.types; refused = [] } }
+    ensures again { (w : World) → IsPrintable w → base_world w.model (world_text w) ≡ w }
+{}
