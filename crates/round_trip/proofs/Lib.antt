@@ -1,3 +1,5 @@
 pub mod Limits
 pub mod KeyTypes
 pub mod ReadAgain
+pub mod Sayings
+pub mod Accepted

@@ -3,4 +3,4 @@
 
 mod laws;
 
-pub use laws::a_printed_world_is_read_back;
+pub use laws::{a_printed_world_is_read_back, base_worlds_can_be_printed};
