@@ -3,3 +3,5 @@ pub mod KeyTypes
 pub mod ReadAgain
 pub mod Sayings
 pub mod Accepted
+pub mod Shown
+pub mod Together

@@ -122,7 +122,7 @@ each_flat : {X : Type 0} (f : X → List (List ℕ)) (ns : List (List ℕ)) (ys 
 each_flat f ns [] h = tt
 each_flat f ns (y ∷ ys) h = each_append (IsIn ns) (f y) (flat_map f ys) h.0 (each_flat f ns ys h.1)
 
-each_mapped : {X : Type 0} (f : X → List ℕ) (ns : List (List ℕ)) (ys : List X) → AllByRecursion (λ y. IsIn ns (f y)) ys → Among (map f ys) ns
+pub each_mapped : {X : Type 0} (f : X → List ℕ) (ns : List (List ℕ)) (ys : List X) → AllByRecursion (λ y. IsIn ns (f y)) ys → Among (map f ys) ns
 each_mapped f ns [] h = tt
 each_mapped f ns (y ∷ ys) h = (h.0, each_mapped f ns ys h.1)
 

@@ -38,7 +38,7 @@ property-sayable field p read =
     let w = WritesProperty-from_read field p.0 p.1 read in
     (w.name, w.plain, written-writable w.text p.1 w.written)
 
-each-put : (P : List ℕ × Value → Type 0) (p : List ℕ × Value) (qs : List (List ℕ × Value)) → P p → AllByRecursion P qs → AllByRecursion P (put_prop p qs)
+pub each-put : (P : List ℕ × Value → Type 0) (p : List ℕ × Value) (qs : List (List ℕ × Value)) → P p → AllByRecursion P qs → AllByRecursion P (put_prop p qs)
 each-put P p [] h k = (h, tt)
 each-put P p (q ∷ qs) h k = cond_both (is_lt (name_cmp p.0 q.0)) (p ∷ q ∷ qs) (q ∷ put_prop p qs) (AllByRecursion P) (λ e. (h, k)) (λ e. (k.0, each-put P p qs h k.1))
 

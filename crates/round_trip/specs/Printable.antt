@@ -1,8 +1,13 @@
 -- Worlds that are printed as rows and read again.
-use Rattle.std.specs.Prelude.{◌≤◌, IsTrue}
+use Rattle.std.specs.Prelude.{ℕ, List, ◌≤◌, IsTrue}
 use Rattle.std.specs.List.{AllByRecursion}
 use Rattle.graph_model.specs.Accepting.{Counted, count_of, limit_of}
 use Rattle.graph_model.specs.World.{World, IsLawful}
+use Rattle.graph_model.specs.declared.events.Model.{Model}
+use Rattle.graph_model.specs.declared.queries.Query.{Query}
+use Rattle.graph_model.specs.Reading.{base_world}
+use Rattle.graph_model.specs.Stack.{apply}
+use Rattle.graph_model.specs.Windows.{windows}
 use Rattle.event_rows.specs.Sayable.{IsSayable, IsSayableType, are_bounds}
 
 -- a lawful world within the limits of a file, whose bounds, types and events rows can say
@@ -12,3 +17,7 @@ pub record IsPrintable (w : World) : Type 0 where
   pub bounds : IsTrue (are_bounds w.bounds)
   pub types : AllByRecursion IsSayableType w.types
   pub events : AllByRecursion (IsSayable w.bounds) w.events
+
+-- the worlds that a query leaves of an events file: what its views show of the base world, or the windows of that
+abbrev pub worlds_left : Model → List ℕ → Query → List World
+worlds_left model bytes query = windows (apply query.views (base_world model bytes)) query.each

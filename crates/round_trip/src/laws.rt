@@ -1,10 +1,21 @@
 //! Laws of worlds that are printed and read again. The functions do nothing: their contracts are the laws.
-ghost use Rattle.std.specs.Prelude.{◌≡◌, ℕ, List, []};
+ghost use Rattle.std.specs.Prelude.{◌≡◌, ◌↔◌, ℕ, Bool, List, [], ◌∷◌, length, map, IsTrue, Option};
+ghost use Rattle.std.specs.List.{Contains, list_all};
+ghost use Rattle.graph_model.specs.Answer.{row_fields, world_rows};
+ghost use Rattle.graph_model.specs.Output.{AreBlocks, IsOutput, IsPart, graph_row, world_row};
+ghost use Rattle.graph_model.specs.Range.{op_in_range, query_in_range};
 ghost use Rattle.graph_model.specs.Reading.{base_world, reading};
-ghost use Rattle.graph_model.specs.RowText.{world_text};
+ghost use Rattle.graph_model.specs.RowText.{rows_text, world_text};
+ghost use Rattle.graph_model.specs.Script.{lines_of};
+ghost use Rattle.graph_model.specs.Stack.{apply, view};
+ghost use Rattle.graph_model.specs.Windows.{windows};
 ghost use Rattle.graph_model.specs.World.{World};
 ghost use Rattle.graph_model.specs.declared.events.Model.{Model};
-ghost use Rattle.round_trip.specs.Printable.{IsPrintable};
+ghost use Rattle.graph_model.specs.declared.queries.Ask.TheVariants.{Materialise};
+ghost use Rattle.graph_model.specs.declared.queries.Each.{Each};
+ghost use Rattle.graph_model.specs.declared.queries.Op.{Op};
+ghost use Rattle.graph_model.specs.declared.queries.Query.{Query};
+ghost use Rattle.round_trip.specs.Printable.{IsPrintable, worlds_left};
 
 /// The text of a world that can be printed, read under its model, has no refused record; it says the world's bounds, types and events, and its base world is the world.
 pub fn a_printed_world_is_read_back()
@@ -15,4 +26,25 @@ pub fn a_printed_world_is_read_back()
 /// The base world of an events file, whatever its bytes are, can be printed.
 pub fn base_worlds_can_be_printed()
     ensures { (model : Model) (bytes : List ℕ) → IsPrintable (base_world model bytes) }
+{}
+
+/// What a view shows of a world that can be printed can be printed, where the view's numbers are in range; and so can what a stack of views shows, and each window.
+pub fn views_can_be_printed()
+    ensures view { (w : World) (op : Op) → IsTrue (op_in_range op) → IsPrintable w → IsPrintable (view w op) }
+    ensures stack { (w : World) (ops : List Op) → IsTrue (list_all op_in_range ops) → IsPrintable w → IsPrintable (apply ops w) }
+    ensures windows { (w v : World) (each : Option Each) → IsPrintable w → Contains (windows w each) v → IsPrintable v }
+{}
+
+/// Each world that a query leaves of an events file, whatever the file's bytes are, is printed as rows of which none is refused under the same model, and whose base world is that world.
+pub fn what_a_query_leaves_is_read_back()
+    ensures printable { (model : Model) (bytes : List ℕ) (query : Query) (w : World) → IsTrue (query_in_range query) → Contains (worlds_left model bytes query) w → IsPrintable w }
+    ensures unrefused { (model : Model) (bytes : List ℕ) (query : Query) (w : World) → IsTrue (query_in_range query) → Contains (worlds_left model bytes query) w → (reading model (world_text w)).refused ≡ [] }
+    ensures again { (model : Model) (bytes : List ℕ) (query : Query) (w : World) → IsTrue (query_in_range query) → Contains (worlds_left model bytes query) w → base_world model (world_text w) ≡ w }
+{}
+
+/// For every script, what is written for the printed rows of such a world has the row of its graph, in which no record is refused, and the blocks of that world; so each question has the rows that it has on the world.
+pub fn a_printed_world_is_answered_as_the_world()
+    ensures { (is_answered : Query → Bool) (model : Model) (bytes : List ℕ) (query : Query) (w : World) (script text : List ℕ) → IsTrue (query_in_range query) → Contains (worlds_left model bytes query) w
+        → IsOutput is_answered model (world_text w) script text
+        ↔ ((blocks : List (List (List ℕ))) × AreBlocks is_answered w 1 (lines_of script) blocks × (text ≡ rows_text (graph_row model w.bounds (length w.events) 0 ∷ blocks))) }
 {}
