@@ -1,6 +1,6 @@
 -- What is read of an events file can be printed: the world of any records.
 use Rattle.std.proofs.Common.{◌≡◌, ◌+◌, ◌==◌, ◌≤◌, ◌&&◌, ℕ, Bool, true, false, not, List, [], ◌∷◌, ◌++◌, cond, Option, None, Some, Result, Ok, Err, refl, sym, subst, arith}
-use Rattle.std.specs.Prelude.{IsTrue, int_le, is_some, if◌then◌else◌}
+use Rattle.std.specs.Prelude.{◌↔◌, IsTrue, int_le, is_some, if◌then◌else◌}
 use Rattle.std.specs.List.{AllByRecursion}
 use Rattle.std.specs.Ordering.{is_gt, is_lt}
 use Rattle.std.proofs.lemmas.Bool.{and_parts, cond_both}
@@ -17,8 +17,9 @@ use Rattle.graph_model.specs.Props.{KeysRise}
 use Rattle.graph_model.specs.Reading.{Reading, Refused, base_world, judge, judge_said, nothing_read, read_on, reading, records_of, unless, with_record, world_of, GivesType, Happens}
 use Rattle.graph_model.specs.Refusal.{Deletion, KeyType, Limit, RecordRefusal, Retype}
 use Rattle.graph_model.specs.Rising.{Rises, put_rising}
+use Rattle.graph_model.specs.RowText.{world_text}
 use Rattle.graph_model.specs.Said.{Said, SaysBounds, SaysEvent, SaysType, row_of}
-use Rattle.graph_model.specs.World.{all_typed, allows, arrange, event_cmp, named, put_type, type_cmp, types_in}
+use Rattle.graph_model.specs.World.{World, all_typed, allows, arrange, event_cmp, named, put_type, type_cmp, types_in}
 use Rattle.world_laws.proofs.Base.{IsLawful-base}
 use Rattle.world_laws.proofs.Counts.{length_in_order}
 use Rattle.world_laws.proofs.Filters.{each_append, each_kept, each_weaker}
@@ -30,6 +31,8 @@ use Rattle.event_rows.specs.Sayable.{IsSayable, IsSayableType, IsSayableWhat, ar
 use Rattle.round_trip.specs.Printable.{IsPrintable}
 use Rattle.round_trip.proofs.KeyTypes.{typed_more}
 use Rattle.round_trip.proofs.Limits.{IsOf, IsTypeOf, IsWithin, each_own, each_own_type, within_fewer, within_passed}
+use Rattle.round_trip.proofs.Lists.{each_front, each_middle}
+use Rattle.round_trip.proofs.ReadAgain.{world_again}
 use Rattle.round_trip.proofs.Sayings.{bounds-first, row-said}
 
 -- what is so of all that was read: bounds, events and types that rows can say, which were not refused
@@ -74,20 +77,12 @@ each_put_type P t (s ∷ ts) h k =
     (λ e. (h, k))
     (λ e. cond_both (is_gt (type_cmp t s)) (s ∷ put_rising type_cmp t ts) (s ∷ ts) (AllByRecursion P) (λ f. (k.0, each_put_type P t ts h k.1)) (λ f. k))
 
-each_front : {X : Type 0} (P : X → Type 0) (us vs : List X) → AllByRecursion P (us ++ vs) → AllByRecursion P us
-each_front P [] vs h = tt
-each_front P (u ∷ us) vs h = (h.0, each_front P us vs h.1)
-
-each_last : {X : Type 0} (P : X → Type 0) (us : List X) (v : X) → AllByRecursion P (us ++ v ∷ []) → P v
-each_last P [] v h = h.0
-each_last P (u ∷ us) v h = each_last P us v h.1
-
 -- the types with one more
 limits_put : (accepted : List Event) (t : List ℕ × List ℕ) (types : List (List ℕ × List ℕ)) → IsWithin accepted (types ++ t ∷ []) → IsWithin accepted (put_type t types)
 limits_put accepted t types h =
     let all = each_own_type (types ++ t ∷ []) in
     within_fewer accepted (types ++ t ∷ []) accepted (put_type t types) h (omega arith) (each_own accepted)
-    (each_put_type (IsTypeOf (types ++ t ∷ [])) t types (each_last (IsTypeOf (types ++ t ∷ [])) types t all) (each_front (IsTypeOf (types ++ t ∷ [])) types (t ∷ []) all))
+    (each_put_type (IsTypeOf (types ++ t ∷ [])) t types (each_middle (IsTypeOf (types ++ t ∷ [])) types t [] all) (each_front (IsTypeOf (types ++ t ∷ [])) types (t ∷ []) all))
 
 sayable_rise : (w : What) → IsSayableWhat w → KeysRise (what_props w)
 sayable_rise (what.Node name props) h = h.1.0
@@ -200,3 +195,7 @@ world_read model r h = record {
 -- the base world of any file can be printed
 pub file_printable : (model : Model) (bytes : List ℕ) → IsPrintable (base_world model bytes)
 file_printable model bytes = world_read model (reading model bytes) (file_read model bytes)
+
+-- so can a world that is the base world of its own text, and no other is
+pub exactly_printable : (w : World) → (base_world w.model (world_text w) ≡ w) ↔ IsPrintable w
+exactly_printable w = (λ e. subst IsPrintable e (file_printable w.model (world_text w)), λ h. world_again w h)

@@ -3,8 +3,8 @@ use Rattle.std.proofs.Common.{◌≡◌, ℕ, Bool, true, false, not, ◌||◌, 
 use Rattle.std.specs.Prelude.{⊤, option_map}
 use Rattle.std.specs.Bool.{beq}
 use Rattle.std.specs.Option.{option_map_or}
-use Rattle.std.specs.List.{filter, find, list_all, AllByRecursion}
-use Rattle.std.proofs.lemmas.Bool.{and_parts, or_right, true≢false}
+use Rattle.std.specs.List.{find, list_all, AllByRecursion}
+use Rattle.std.proofs.lemmas.Bool.{not-true, and_parts, or_right}
 use Rattle.std.specs.declared.cmp.Ordering.TheVariants.{Less}
 use Rattle.std.specs.Ordering.{is_eq}
 use Rattle.graph_model.specs.declared.properties.Value.{Value}
@@ -19,7 +19,8 @@ use Rattle.graph_model.specs.World.{all_typed, props_agree, same_type, types_agr
 use Rattle.world_laws.proofs.Filters.{each_weaker, each_append, each_kept, each_two, kept_pass}
 use Rattle.world_laws.proofs.Order.{same_name-exact}
 use Rattle.world_laws.proofs.Lawful.{all_pass, all_swap, each_passes}
-use Rattle.round_trip.proofs.Limits.{found_none, none_found}
+use Rattle.world_laws.proofs.Members.{both_true}
+use Rattle.round_trip.proofs.Lists.{each_front, each_rest, each_where, found_none, none_found}
 
 -- the values of two properties have one type where their keys are one
 abbrev pub agrees : List ℕ × Value → List ℕ × Value → Bool
@@ -64,10 +65,6 @@ agree_same true false t e h = cc
 agree_same false true t e h = cc
 agree_same false false t e h = h
 
-unnot : (b : Bool) → not b ≡ true → b ≡ false
-unnot true h = cc
-unnot false h = refl
-
 alike_agree : (x : Event) (ys : List Event) → AllByRecursion (λ y. types_agree x y ≡ true) ys → AllByRecursion (λ y. props_agree (props_of x) (props_of y) ≡ true) (alike x ys)
 alike_agree x ys h = by (is_node (entity_of x)) refl
   where
@@ -78,7 +75,7 @@ alike_agree x ys h = by (is_node (entity_of x)) refl
         (node_events ys) (kept_pass (λ (y : Event). is_node (entity_of y)) ys) (each_kept (λ y. types_agree x y ≡ true) (λ (y : Event). is_node (entity_of y)) ys h))
     by false e = subst (λ t. AllByRecursion (λ y. props_agree (props_of x) (props_of y) ≡ true) (cond t (node_events ys) (edge_events ys))) (sym e)
         (each_two (λ (y : Event). not (is_node (entity_of y)) ≡ true) (λ y. types_agree x y ≡ true) (λ y. props_agree (props_of x) (props_of y) ≡ true)
-        (λ y k m. agree_same (is_node (entity_of x)) (is_node (entity_of y)) (props_agree (props_of x) (props_of y)) (e ∙ sym (unnot (is_node (entity_of y)) k)) m)
+        (λ y k m. agree_same (is_node (entity_of x)) (is_node (entity_of y)) (props_agree (props_of x) (props_of y)) (e ∙ sym (not-true (is_node (entity_of y)) k)) m)
         (edge_events ys) (kept_pass (λ (y : Event). not (is_node (entity_of y))) ys) (each_kept (λ y. types_agree x y ≡ true) (λ (y : Event). not (is_node (entity_of y))) ys h))
 
 -- the properties of one list agree with those of events
@@ -194,34 +191,17 @@ alike_pairs x xs h = by (is_node (entity_of x))
     by : (b : Bool) → AllByRecursion (λ y. AllByRecursion (λ z. props_agree (props_of y) (props_of z) ≡ true) (cond b (node_events xs) (edge_events xs))) (cond b (node_events xs) (edge_events xs))
     by true = each_two (λ (y : Event). is_node (entity_of y) ≡ true) (λ y. AllByRecursion (λ z. types_agree y z ≡ true) xs) (λ y. AllByRecursion (λ z. props_agree (props_of y) (props_of z) ≡ true) (node_events xs)) (λ y e k. one true y e k)
         (node_events xs) (kept_pass (λ (y : Event). is_node (entity_of y)) xs) (each_kept (λ y. AllByRecursion (λ z. types_agree y z ≡ true) xs) (λ (y : Event). is_node (entity_of y)) xs h)
-    by false = each_two (λ (y : Event). not (is_node (entity_of y)) ≡ true) (λ y. AllByRecursion (λ z. types_agree y z ≡ true) xs) (λ y. AllByRecursion (λ z. props_agree (props_of y) (props_of z) ≡ true) (edge_events xs)) (λ y e k. one false y (unnot (is_node (entity_of y)) e) k)
+    by false = each_two (λ (y : Event). not (is_node (entity_of y)) ≡ true) (λ y. AllByRecursion (λ z. types_agree y z ≡ true) xs) (λ y. AllByRecursion (λ z. props_agree (props_of y) (props_of z) ≡ true) (edge_events xs)) (λ y e k. one false y (not-true (is_node (entity_of y)) e) k)
         (edge_events xs) (kept_pass (λ (y : Event). not (is_node (entity_of y))) xs) (each_kept (λ y. AllByRecursion (λ z. types_agree y z ≡ true) xs) (λ (y : Event). not (is_node (entity_of y))) xs h)
-
-each_first : {X : Type 0} (P : X → Type 0) (us vs : List X) → AllByRecursion P (us ++ vs) → AllByRecursion P us
-each_first P [] vs h = tt
-each_first P (u ∷ us) vs h = (h.0, each_first P us vs h.1)
-
-each_rest : {X : Type 0} (P : X → Type 0) (us vs : List X) → AllByRecursion P (us ++ vs) → AllByRecursion P vs
-each_rest P [] vs h = h
-each_rest P (u ∷ us) vs h = each_rest P us vs h.1
 
 -- properties that agree with those of all events agree with those of each
 by_event : (ps : List (List ℕ × Value)) (ys : List Event) → AllByRecursion (λ p. AllByRecursion (λ q. agrees p q ≡ true) (properties_of ys)) ps → AllByRecursion (λ y. props_agree ps (props_of y) ≡ true) ys
 by_event ps [] h = tt
 by_event ps (y ∷ ys) h = (
   all_pass (λ p. list_all (agrees p) (props_of y)) ps (each_weaker (λ p. AllByRecursion (λ q. agrees p q ≡ true) (properties_of (y ∷ ys))) (λ p. list_all (agrees p) (props_of y) ≡ true)
-      (λ p k. all_pass (agrees p) (props_of y) (each_first (λ q. agrees p q ≡ true) (props_of y) (properties_of ys) k)) ps h),
+      (λ p k. all_pass (agrees p) (props_of y) (each_front (λ q. agrees p q ≡ true) (props_of y) (properties_of ys) k)) ps h),
   by_event ps ys (each_weaker (λ p. AllByRecursion (λ q. agrees p q ≡ true) (properties_of (y ∷ ys))) (λ p. AllByRecursion (λ q. agrees p q ≡ true) (properties_of ys)) (λ p k. each_rest (λ q. agrees p q ≡ true) (props_of y) (properties_of ys) k) ps h),
 )
-
--- what holds of the items that a filter keeps
-each_where : {X : Type 0} (P : X → Type 0) (t : X → Bool) (xs : List X) → AllByRecursion P (filter t xs) → AllByRecursion (λ x. t x ≡ true → P x) xs
-each_where P t [] h = tt
-each_where P t (x ∷ xs) h = by (t x) refl h (λ k. each_where P t xs k)
-  where
-    by : (b : Bool) → t x ≡ b → AllByRecursion P (cond b (x ∷ filter t xs) (filter t xs)) → (AllByRecursion P (filter t xs) → AllByRecursion (λ y. t y ≡ true → P y) xs) → AllByRecursion (λ y. t y ≡ true → P y) (x ∷ xs)
-    by true e k rest = (λ i. k.0, rest k.1)
-    by false e k rest = (λ i. absurd (true≢false (sym i ∙ e)), rest k)
 
 alike_all : (x : Event) (xs : List Event) → AllByRecursion (λ y. props_agree (props_of x) (props_of y) ≡ true) (alike x xs) → AllByRecursion (λ y. types_agree x y ≡ true) xs
 alike_all x xs h = by (is_node (entity_of x)) h
@@ -241,11 +221,6 @@ alike_all x xs h = by (is_node (entity_of x)) h
         one y false f = f refl
 
 -- ---- both ways
-
-both_true : (a b : Bool) → (a ≡ true → b ≡ true) → (b ≡ true → a ≡ true) → a ≡ b
-both_true true b h k = sym (h refl)
-both_true false true h k = k refl
-both_true false false h k = refl
 
 agrees-sym : (p q : List ℕ × Value) → agrees p q ≡ agrees q p
 agrees-sym p q = let m = name_equiv.symm p.0 q.0 in let t = same_type-sym p.1 q.1 in λ k. not (m k) || t k

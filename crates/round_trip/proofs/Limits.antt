@@ -1,7 +1,7 @@
 -- What is counted of events and types, and the limits that are not passed.
-use Rattle.std.proofs.Common.{◌≡◌, ℕ, ◌≤◌, Bool, true, false, not, List, [], ◌∷◌, ◌++◌, cond, length, map, None, Some, refl, sym, ◌∙◌, ap, subst, arith, nat_lt}
-use Rattle.std.specs.List.{filter, find, list_any, flat_map, AllByRecursion}
-use Rattle.std.proofs.lemmas.Bool.{cond_both, or_left, or_right}
+use Rattle.std.proofs.Common.{◌≡◌, ℕ, ◌≤◌, Bool, true, false, not, List, [], ◌∷◌, ◌++◌, cond, length, map, None, refl, sym, ◌∙◌, ap, subst, arith, nat_lt}
+use Rattle.std.specs.List.{filter, list_any, flat_map, AllByRecursion}
+use Rattle.std.proofs.lemmas.Bool.{not-true, cond_both, or_left, or_right}
 use Rattle.std.proofs.lemmas.Bool.Decides.{nat_tests}
 use Rattle.std.proofs.lemmas.List.{length-append, map-append}
 use Rattle.std.proofs.lemmas.List.Folds.{list_any-append}
@@ -19,6 +19,7 @@ use Rattle.graph_model.specs.Accepting.{Counted, Events, Nodes, Layers, NodeKeys
 use Rattle.world_laws.proofs.Filters.{each_weaker, each_append, each_two, each_kept, kept_pass}
 use Rattle.world_laws.proofs.Members.{each_at}
 use Rattle.world_laws.proofs.Order.{name_exact, same_name-refl}
+use Rattle.round_trip.proofs.Lists.{each_front, none_found}
 use Rattle.world_laws.proofs.RisingItems.{any_rising, Rises-rising}
 
 -- ---- names in lists
@@ -130,10 +131,6 @@ each_prop : (P : List ℕ × Value → Type 0) (ys : List Event) → AllByRecurs
 each_prop P [] h = tt
 each_prop P (y ∷ ys) h = each_append P (props_of y) (properties_of ys) h.0 (each_prop P ys h.1)
 
-unnot : (b : Bool) → not b ≡ true → b ≡ false
-unnot true h = cc
-unnot false h = refl
-
 -- no more is counted of events and types whose names and keys others have
 pub count_fewer : (k : Counted) (xs : List Event) (ss : List (List ℕ × List ℕ)) (ys : List Event) (ts : List (List ℕ × List ℕ)) → length ys ≤ length xs → AllByRecursion (IsOf xs) ys → AllByRecursion (IsTypeOf ss) ts
     → count_of k ys ts ≤ count_of k xs ss
@@ -160,7 +157,7 @@ count_fewer EdgeKeys xs ss ys ts few each types =
     distinct_fewer (key_names (edge_events ys)) (key_names (edge_events xs))
     (each_mapped (λ (p : List ℕ × Value). p.0) (key_names (edge_events xs)) (properties_of (edge_events ys))
     (each_prop (λ (p : List ℕ × Value). IsIn (key_names (edge_events xs)) p.0) (edge_events ys)
-    (each_two (IsOf xs) (λ (y : Event). not (is_node (entity_of y)) ≡ true) (λ (y : Event). AllByRecursion (λ (p : List ℕ × Value). IsIn (key_names (edge_events xs)) p.0) (props_of y)) (λ y h e. h.edge_keys (unnot (is_node (entity_of y)) e))
+    (each_two (IsOf xs) (λ (y : Event). not (is_node (entity_of y)) ≡ true) (λ (y : Event). AllByRecursion (λ (p : List ℕ × Value). IsIn (key_names (edge_events xs)) p.0) (props_of y)) (λ y h e. h.edge_keys (not-true (is_node (entity_of y)) e))
     (edge_events ys) (each_kept (IsOf xs) (λ (y : Event). not (is_node (entity_of y))) ys each) (kept_pass (λ (y : Event). not (is_node (entity_of y))) ys))))
 count_fewer Types xs ss ys ts few each types =
     distinct_fewer (type_names ts) (type_names ss)
@@ -179,11 +176,7 @@ within_fewer xs ss ys ts within few each types k = let fewer = count_fewer k xs 
 pub within_front : (xs ys : List Event) (ss ts : List (List ℕ × List ℕ)) → IsWithin (xs ++ ys) (ss ++ ts) → IsWithin xs ss
 within_front xs ys ss ts within =
     let size = length-append xs ys in
-    within_fewer (xs ++ ys) (ss ++ ts) xs ss within (omega (arith, size)) (each_first (IsOf (xs ++ ys)) xs ys (each_own (xs ++ ys))) (each_first (IsTypeOf (ss ++ ts)) ss ts (each_own_type (ss ++ ts)))
-  where
-    each_first : {X : Type 0} (P : X → Type 0) (us vs : List X) → AllByRecursion P (us ++ vs) → AllByRecursion P us
-    each_first P [] vs h = tt
-    each_first P (u ∷ us) vs h = (h.0, each_first P us vs h.1)
+    within_fewer (xs ++ ys) (ss ++ ts) xs ss within (omega (arith, size)) (each_front (IsOf (xs ++ ys)) xs ys (each_own (xs ++ ys))) (each_front (IsTypeOf (ss ++ ts)) ss ts (each_own_type (ss ++ ts)))
 
 within_limit : (m n : ℕ) → n ≤ m → nat_lt m n ≡ false
 within_limit m n h = grind (arith, nat_tests, h)
@@ -199,19 +192,6 @@ passed_none xs ts h =
       within_limit (limit_of EdgeKeys) (count_of EdgeKeys xs ts) (h EdgeKeys),
       within_limit (limit_of Types) (count_of Types xs ts) (h Types),
     ) refl
-
--- where nothing is found, nothing passes
-pub none_found : {X : Type 0} (p : X → Bool) (xs : List X) → find p xs ≡ None → AllByRecursion (λ x. p x ≡ false) xs
-none_found p [] e = tt
-none_found p (x ∷ xs) e = by (p x) refl e (λ k. none_found p xs k)
-  where
-    by : (t : Bool) → p x ≡ t → cond t (Some x) (find p xs) ≡ None → (find p xs ≡ None → AllByRecursion (λ y. p y ≡ false) xs) → AllByRecursion (λ y. p y ≡ false) (x ∷ xs)
-    by true h k rest = cc
-    by false h k rest = (h, rest k)
-
-pub found_none : {X : Type 0} (p : X → Bool) (xs : List X) → AllByRecursion (λ x. p x ≡ false) xs → find p xs ≡ None
-found_none p [] h = refl
-found_none p (x ∷ xs) h = rw (h.0, found_none p xs h.1) refl
 
 not_over : (m n : ℕ) → nat_lt m n ≡ false → n ≤ m
 not_over m n h = grind (arith, nat_tests, h)

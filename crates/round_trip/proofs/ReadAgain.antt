@@ -24,7 +24,8 @@ use Rattle.event_rows.proofs.Events.{event-again, span-again, type-again}
 use Rattle.event_rows.proofs.WorldRows.{world-back}
 use Rattle.round_trip.specs.Printable.{IsPrintable}
 use Rattle.round_trip.proofs.KeyTypes.{mistyped_none}
-use Rattle.round_trip.proofs.Limits.{IsWithin, found_none, passed_none, within_front}
+use Rattle.round_trip.proofs.Limits.{IsWithin, passed_none, within_front}
+use Rattle.round_trip.proofs.Lists.{each_front, each_middle, found_none}
 
 -- what was read where nothing was refused
 abbrev pub given : Interval → List Event → List (List ℕ × List ℕ) → Reading
@@ -32,18 +33,10 @@ given bounds xs ts = record { bounds = bounds; accepted = xs; types = ts; refuse
 
 -- ---- types
 
-each_front : {X : Type 0} (P : X → Type 0) (us vs : List X) → AllByRecursion P (us ++ vs) → AllByRecursion P us
-each_front P [] vs h = tt
-each_front P (u ∷ us) vs h = (h.0, each_front P us vs h.1)
-
-middle : {X : Type 0} (P : X → Type 0) (us : List X) (v : X) (vs : List X) → AllByRecursion P (us ++ v ∷ vs) → P v
-middle P [] v vs h = h.0
-middle P (u ∷ us) v vs h = middle P us v vs h.1
-
 -- of types that rise each is behind those before it
 behind : (front : List (List ℕ × List ℕ)) (t : List ℕ × List ℕ) (back : List (List ℕ × List ℕ)) → Rises type_cmp (front ++ t ∷ back) → AllByRecursion (λ s. type_cmp s t ≡ Less) front
 behind [] t back rise = tt
-behind (s ∷ front) t back rise = (middle (λ u. type_cmp s u ≡ Less) front t back rise.0, behind front t back rise.1)
+behind (s ∷ front) t back rise = (each_middle (λ u. type_cmp s u ≡ Less) front t back rise.0, behind front t back rise.1)
 
 put_last : (t : List ℕ × List ℕ) (ts : List (List ℕ × List ℕ)) → AllByRecursion (λ s. type_cmp s t ≡ Less) ts → put_type t ts ≡ ts ++ t ∷ []
 put_last t [] h = refl
@@ -101,10 +94,10 @@ events_read model bounds types front (x ∷ back) h n =
     let one = append_assoc front (x ∷ []) back in
     let next = events_read model bounds types (front ++ x ∷ []) back (subst (AreTaken model bounds types) (sym one) h) (n + 1) in
     let all : List Event = front ++ x ∷ back in
-    let agree = each_front (λ y. types_agree x y ≡ true) front (x ∷ back) (middle (λ z. AllByRecursion (λ y. types_agree z y ≡ true) all) front x back h.agree) in
+    let agree = each_front (λ y. types_agree x y ≡ true) front (x ∷ back) (each_middle (λ z. AllByRecursion (λ y. types_agree z y ≡ true) all) front x back h.agree) in
     let within : IsWithin ((front ++ x ∷ []) ++ back) types = subst (λ ys. IsWithin ys types) (sym one) h.within in
     let few = within_front (front ++ x ∷ []) back types [] (subst (IsWithin ((front ++ x ∷ []) ++ back)) (sym (append-nil types)) within) in
-    let step = event_read model bounds types n (n == 1) front x (middle (IsSayable bounds) front x back h.sayable) (middle (λ y. allows model y ≡ true) front x back h.allowed) agree few in
+    let step = event_read model bounds types n (n == 1) front x (each_middle (IsSayable bounds) front x back h.sayable) (each_middle (λ y. allows model y ≡ true) front x back h.allowed) agree few in
     ap (λ s. read_on model s (n + 1) (map row_fields (map Recorded back))) step ∙ (next ∙ ap (λ ys. given bounds ys types) one)
 
 -- ---- a world

@@ -17,10 +17,10 @@ ghost use Rattle.graph_model.specs.declared.queries.Op.{Op};
 ghost use Rattle.graph_model.specs.declared.queries.Query.{Query};
 ghost use Rattle.round_trip.specs.Printable.{IsPrintable, worlds_left};
 
-/// The text of a world that can be printed, read under its model, has no refused record; it says the world's bounds, types and events, and its base world is the world.
+/// The text of a world that can be printed, read under its model, has no refused record, and says the world's bounds, types and events. A world is the base world of its text exactly where it can be printed.
 pub fn a_printed_world_is_read_back()
     ensures said { (w : World) → IsPrintable w → reading w.model (world_text w) ≡ record { bounds = w.bounds; accepted = w.events; types = w.types; refused = [] } }
-    ensures again { (w : World) → IsPrintable w → base_world w.model (world_text w) ≡ w }
+    ensures exactly { (w : World) → (base_world w.model (world_text w) ≡ w) ↔ IsPrintable w }
 {}
 
 /// The base world of an events file, whatever its bytes are, can be printed.

@@ -1,8 +1,9 @@
-use Rattle.round_trip.proofs.ReadAgain.{world_again, world_said}
+use Rattle.round_trip.proofs.Accepted.{exactly_printable}
+use Rattle.round_trip.proofs.ReadAgain.{world_said}
 use Rattle.round_trip.proofs.laws.a_printed_world_is_read_back.Goals as goal
 
 pub returns-clause-said : goal.returns-clause-said
 returns-clause-said c = world_said
 
-pub returns-clause-again : goal.returns-clause-again
-returns-clause-again c = world_again
+pub returns-clause-exactly : goal.returns-clause-exactly
+returns-clause-exactly c = exactly_printable
