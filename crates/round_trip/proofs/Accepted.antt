@@ -1,7 +1,7 @@
 -- What is read of an events file can be printed: the world of any records.
 use Rattle.std.proofs.Common.{◌≡◌, ◌+◌, ◌==◌, ◌≤◌, ◌&&◌, ℕ, Bool, true, false, not, List, [], ◌∷◌, ◌++◌, cond, Option, None, Some, Result, Ok, Err, refl, sym, subst, arith}
 use Rattle.std.specs.Prelude.{◌↔◌, IsTrue, int_le, is_some, if◌then◌else◌}
-use Rattle.std.specs.List.{AllByRecursion}
+use Rattle.std.specs.List.{Contains, AllByRecursion}
 use Rattle.std.specs.Ordering.{is_gt, is_lt}
 use Rattle.std.proofs.lemmas.Bool.{and_parts, cond_both}
 use Rattle.std.proofs.lemmas.Bool.Decides.{nat_tests}
@@ -13,6 +13,7 @@ use Rattle.graph_model.specs.declared.events.Model.{Model}
 use Rattle.graph_model.specs.Accepting.{Counted, EdgeKeys, Events, Layers, NodeKeys, Nodes, Types, event_refusal, is_other_type, mistyped, passed_limit, type_refusal}
 use Rattle.graph_model.specs.Entity.{props_of, what_props}
 use Rattle.graph_model.specs.Interval.{Interval, earliest, is_inside, latest}
+use Rattle.graph_model.specs.PropertyField.{has_no_colon}
 use Rattle.graph_model.specs.Props.{KeysRise}
 use Rattle.graph_model.specs.Reading.{Reading, Refused, base_world, judge, judge_said, nothing_read, read_on, reading, records_of, unless, with_record, world_of, GivesType, Happens}
 use Rattle.graph_model.specs.Refusal.{Deletion, KeyType, Limit, RecordRefusal, Retype}
@@ -26,8 +27,9 @@ use Rattle.world_laws.proofs.Filters.{each_append, each_kept, each_weaker}
 use Rattle.world_laws.proofs.InOrder.{each_in_order}
 use Rattle.world_laws.proofs.Lawful.{all_pass}
 use Rattle.world_laws.proofs.Order.{type_total}
+use Rattle.world_laws.proofs.Rows.{each_contained}
 use Rattle.world_laws.proofs.RisingItems.{Rises-put}
-use Rattle.event_rows.specs.Sayable.{IsSayable, IsSayableType, IsSayableWhat, are_bounds}
+use Rattle.event_rows.specs.Sayable.{IsSayable, IsSayableProp, IsSayableType, IsSayableWhat, are_bounds}
 use Rattle.round_trip.specs.Printable.{IsPrintable}
 use Rattle.round_trip.proofs.KeyTypes.{typed_more}
 use Rattle.round_trip.proofs.Limits.{IsOf, IsTypeOf, IsWithin, each_own, each_own_type, within_fewer, within_passed}
@@ -199,3 +201,17 @@ file_printable model bytes = world_read model (reading model bytes) (file_read m
 -- so can a world that is the base world of its own text, and no other is
 pub exactly_printable : (w : World) → (base_world w.model (world_text w) ≡ w) ↔ IsPrintable w
 exactly_printable w = (λ e. subst IsPrintable e (file_printable w.model (world_text w)), λ h. world_again w h)
+
+-- in such a world no key has a `:`
+colons_none : (w : World) → IsPrintable w → AllByRecursion (λ x. AllByRecursion (λ (p : List ℕ × Value). has_no_colon p.0 ≡ true) (props_of x)) w.events
+colons_none w h = each_weaker (IsSayable w.bounds) (λ x. AllByRecursion (λ (p : List ℕ × Value). has_no_colon p.0 ≡ true) (props_of x)) (λ x k. each_weaker IsSayableProp (λ (p : List ℕ × Value). has_no_colon p.0 ≡ true) (λ p m. m.1) (props_of x) (sayable_props x.what k.3)) w.events h.events
+  where
+    sayable_props : (v : What) → IsSayableWhat v → AllByRecursion IsSayableProp (what_props v)
+    sayable_props (what.Node name props) k = k.1.2
+    sayable_props (what.Add edge props) k = k.1.2
+    sayable_props (what.Delete edge) k = tt
+
+pub plain_keys : (w : World) (x : Event) (p : List ℕ × Value) → base_world w.model (world_text w) ≡ w → Contains w.events x → Contains (props_of x) p → IsTrue (has_no_colon p.0)
+plain_keys w x p e in_world in_event =
+    each_contained (λ (q : List ℕ × Value). has_no_colon q.0 ≡ true) (props_of x) p
+    (each_contained (λ y. AllByRecursion (λ (q : List ℕ × Value). has_no_colon q.0 ≡ true) (props_of y)) w.events x (colons_none w ((exactly_printable w).0 e)) in_world) in_event

@@ -1,20 +1,25 @@
 -- What a query leaves of an events file is read again, and asked again with the same answers.
-use Rattle.std.proofs.Common.{◌≡◌, ◌&&◌, ℕ, ℤ, Bool, true, List, [], ◌∷◌, ◌++◌, map, length, Option, None, Some, refl, sym, ◌∙◌, ap, subst}
-use Rattle.std.specs.Prelude.{IsTrue, ◌↔◌}
+use Rattle.std.proofs.Common.{false, ◌≡◌, ◌&&◌, ℕ, ℤ, Bool, true, List, [], ◌∷◌, ◌++◌, map, length, Option, None, Some, refl, sym, ◌∙◌, ap, subst}
+use Rattle.std.specs.Prelude.{if◌then◌else◌, Result, Ok, Err, IsTrue, ◌↔◌}
 use Rattle.std.specs.Option.{option_map_or}
 use Rattle.std.specs.List.{AllByRecursion, Contains, list_all, range_with_len}
 use Rattle.std.proofs.lemmas.Bool.{and_parts}
+use Rattle.csv.specs.Writing.{default_writer, row_text}
 use Rattle.graph_model.specs.declared.events.Event.{Event}
 use Rattle.graph_model.specs.declared.events.Model.{Model}
 use Rattle.graph_model.specs.declared.queries.Each.{Each}
 use Rattle.graph_model.specs.declared.queries.Op.{Op}
 use Rattle.graph_model.specs.declared.queries.Op.TheVariants.{Window, At, Before, After, Layers, ExcludeLayers, Subgraph, ExcludeNodes, EdgesWhere, NodesWhere, Valid, NodeTypes}
 use Rattle.graph_model.specs.declared.queries.Query.{Query}
-use Rattle.graph_model.specs.Output.{AreBlocks, IsOutput, graph_row, refused_row}
+use Rattle.graph_model.specs.declared.queries.Ask.TheVariants.{Materialise}
+use Rattle.graph_model.specs.Answer.{Row, row_fields, world_rows}
+use Rattle.graph_model.specs.Output.{AreBlocks, IsOutput, IsPart, graph_row, refused_row, world_row}
+use Rattle.graph_model.specs.QueryLine.{if_answered, query_of, query_said}
+use Rattle.query_script.proofs.Kept.{line-in-range}
 use Rattle.graph_model.specs.Range.{ask_in_range, each_in_range, op_in_range, query_in_range}
 use Rattle.graph_model.specs.Reading.{Reading, base_world, reading}
 use Rattle.graph_model.specs.RowText.{rows_text, world_text}
-use Rattle.graph_model.specs.Script.{lines_of}
+use Rattle.graph_model.specs.Script.{QueryRefusal, Unbuilt, lines_of}
 use Rattle.graph_model.specs.Stack.{apply, view}
 use Rattle.graph_model.specs.Window.{window}
 use Rattle.graph_model.specs.Windows.{bounded, last_time, window_count, window_end, window_start, windows, windows_from}
@@ -73,6 +78,38 @@ left_said model bytes query w range k = ap (λ m. reading m (world_text w)) (sym
 
 pub left_again : (model : Model) (bytes : List ℕ) (query : Query) (w : World) → IsTrue (query_in_range query) → Contains (worlds_left model bytes query) w → base_world model (world_text w) ≡ w
 left_again model bytes query w range k = ap (λ m. base_world m (world_text w)) (sym (left_model model bytes query w k)) ∙ world_again w (left_printable model bytes query w range k)
+
+-- ---- lines of a script
+
+-- a line that is answered says its query
+where_answered : (b : Bool) (r : Result Query QueryRefusal) (query : Query) → (if b then r else Err Unbuilt) ≡ Ok query → r ≡ Ok query
+where_answered true r query e = e
+where_answered false r query e = cc e
+
+said_by_line : (is_answered : Query → Bool) (r : Result Query QueryRefusal) (query : Query) → if_answered is_answered r ≡ Ok query → r ≡ Ok query
+said_by_line is_answered (Err refusal) query e = cc e
+said_by_line is_answered (Ok q) query e = where_answered (is_answered q) (Ok q) query e
+
+pub line_in_range : (is_answered : Query → Bool) (line : List ℕ) (query : Query) → query_of is_answered line ≡ Ok query → IsTrue (query_in_range query)
+line_in_range is_answered line query e = line-in-range line query (said_by_line is_answered (query_said line) query e)
+
+pub line_unrefused : (is_answered : Query → Bool) (model : Model) (bytes line : List ℕ) (query : Query) (w : World) → query_of is_answered line ≡ Ok query → Contains (worlds_left model bytes query) w → (reading model (world_text w)).refused ≡ []
+line_unrefused is_answered model bytes line query w e k = ap (λ (r : Reading). r.refused) (left_said model bytes query w (line_in_range is_answered line query e) k)
+
+pub line_again : (is_answered : Query → Bool) (model : Model) (bytes line : List ℕ) (query : Query) (w : World) → query_of is_answered line ≡ Ok query → Contains (worlds_left model bytes query) w → base_world model (world_text w) ≡ w
+line_again is_answered model bytes line query w e k = left_again model bytes query w (line_in_range is_answered line query e) k
+
+-- ---- what is printed
+
+-- the part of a world that answers `materialise`
+pub printed_part : (w : World) (part : List (List (List ℕ))) → IsPart w Materialise part ↔ (part ≡ world_row w.bounds (length (world_rows w)) ∷ map row_fields (world_rows w))
+printed_part w part = (
+  λ h. h.2 ∙ ap (λ (rows : List Row). world_row w.bounds (length rows) ∷ map row_fields rows) h.1,
+  λ e. (world_rows w, refl, e),
+)
+
+pub printed_text : (w : World) (part : List (List (List ℕ))) → IsPart w Materialise part → rows_text part ≡ row_text default_writer (world_row w.bounds (length (world_rows w))) ++ world_text w
+printed_text w part h = ap rows_text ((printed_part w part).0 h)
 
 -- ---- what is written for it
 
