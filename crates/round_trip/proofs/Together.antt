@@ -125,6 +125,11 @@ written_same is_answered model bytes script text r w said again = (
   λ h. subst (λ s. IsWritten is_answered model script text s (base_world model bytes)) (sym said) (subst (λ v. IsWritten is_answered model script text r v) (sym again) h),
 )
 
+pub world_written : (is_answered : Query → Bool) (w : World) (script text : List ℕ) → IsPrintable w
+    → IsOutput is_answered w.model (world_text w) script text
+    ↔ ((blocks : List (List (List ℕ))) × AreBlocks is_answered w 1 (lines_of script) blocks × (text ≡ rows_text (graph_row w.model w.bounds (length w.events) 0 ∷ blocks)))
+world_written is_answered w script text h = written_same is_answered w.model (world_text w) script text (given w.bounds w.events w.types) w (world_said w h) (world_again w h)
+
 pub left_written : (is_answered : Query → Bool) (model : Model) (bytes : List ℕ) (query : Query) (w : World) (script text : List ℕ) → IsTrue (query_in_range query) → Contains (worlds_left model bytes query) w
     → IsOutput is_answered model (world_text w) script text
     ↔ ((blocks : List (List (List ℕ))) × AreBlocks is_answered w 1 (lines_of script) blocks × (text ≡ rows_text (graph_row model w.bounds (length w.events) 0 ∷ blocks)))

@@ -10,11 +10,14 @@ use Rattle.graph_model.specs.Stack.{apply}
 use Rattle.graph_model.specs.Windows.{windows}
 use Rattle.event_rows.specs.Sayable.{IsSayable, IsSayableType, are_bounds}
 
--- a lawful world within the limits of a file, whose bounds, types and events rows can say
+-- a world that can be printed: one that is read again from its rows
 pub record IsPrintable (w : World) : Type 0 where
   pub lawful : IsLawful w
+  -- there is no more of anything than an events file may have
   pub limits : (counted : Counted) → count_of counted w.events w.types ≤ limit_of counted
+  -- the bounds are in range
   pub bounds : IsTrue (are_bounds w.bounds)
+  -- rows can say its types and its events
   pub types : AllByRecursion IsSayableType w.types
   pub events : AllByRecursion (IsSayable w.bounds) w.events
 

@@ -61,9 +61,12 @@ pub fn materialise_prints_the_text_of_a_world()
     ensures text { (w : World) (part : List (List (List ℕ))) → IsPart w Materialise part → rows_text part ≡ row_text default_writer (world_row w.bounds (length (world_rows w))) ++ world_text w }
 {}
 
-/// For every script, what is written for the printed rows of such a world has the row of its graph, in which no record is refused, and the blocks of that world; so each question has the rows that it has on the world.
+/// For every script, what is written for the text of a world that can be printed has the row of its graph, in which no record is refused, and the blocks of that world; so each question has the rows that it has on the world. So it is of each world that a query leaves of an events file.
 pub fn a_printed_world_is_answered_as_the_world()
-    ensures { (is_answered : Query → Bool) (model : Model) (bytes : List ℕ) (query : Query) (w : World) (script text : List ℕ) → IsTrue (query_in_range query) → Contains (worlds_left model bytes query) w
+    ensures printable { (is_answered : Query → Bool) (w : World) (script text : List ℕ) → IsPrintable w
+        → IsOutput is_answered w.model (world_text w) script text
+        ↔ ((blocks : List (List (List ℕ))) × AreBlocks is_answered w 1 (lines_of script) blocks × (text ≡ rows_text (graph_row w.model w.bounds (length w.events) 0 ∷ blocks))) }
+    ensures left { (is_answered : Query → Bool) (model : Model) (bytes : List ℕ) (query : Query) (w : World) (script text : List ℕ) → IsTrue (query_in_range query) → Contains (worlds_left model bytes query) w
         → IsOutput is_answered model (world_text w) script text
         ↔ ((blocks : List (List (List ℕ))) × AreBlocks is_answered w 1 (lines_of script) blocks × (text ≡ rows_text (graph_row model w.bounds (length w.events) 0 ∷ blocks))) }
 {}

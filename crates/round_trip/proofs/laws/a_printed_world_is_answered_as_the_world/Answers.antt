@@ -1,5 +1,8 @@
-use Rattle.round_trip.proofs.Together.{left_written}
+use Rattle.round_trip.proofs.Together.{left_written, world_written}
 use Rattle.round_trip.proofs.laws.a_printed_world_is_answered_as_the_world.Goals as goal
 
-pub returns : goal.returns
-returns c = left_written
+pub returns-clause-printable : goal.returns-clause-printable
+returns-clause-printable c = world_written
+
+pub returns-clause-left : goal.returns-clause-left
+returns-clause-left c = left_written
