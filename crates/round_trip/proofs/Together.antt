@@ -1,5 +1,5 @@
 -- What a query leaves of an events file is read again, and asked again with the same answers.
-use Rattle.std.proofs.Common.{false, ◌≡◌, ◌&&◌, ℕ, ℤ, Bool, true, List, [], ◌∷◌, ◌++◌, map, length, Option, None, Some, refl, sym, ◌∙◌, ap, subst}
+use Rattle.std.proofs.Common.{◌==◌, false, ◌≡◌, ◌&&◌, ℕ, ℤ, Bool, true, List, [], ◌∷◌, ◌++◌, map, length, Option, None, Some, refl, sym, ◌∙◌, ap, subst}
 use Rattle.std.specs.Prelude.{if◌then◌else◌, Result, Ok, Err, IsTrue, ◌↔◌}
 use Rattle.std.specs.Option.{option_map_or}
 use Rattle.std.specs.List.{AllByRecursion, Contains, list_all, range_with_len}
@@ -13,10 +13,11 @@ use Rattle.graph_model.specs.declared.queries.Op.TheVariants.{Window, At, Before
 use Rattle.graph_model.specs.declared.queries.Query.{Query}
 use Rattle.graph_model.specs.declared.queries.Ask.TheVariants.{Materialise}
 use Rattle.graph_model.specs.Answer.{Row, row_fields, world_rows}
-use Rattle.graph_model.specs.Output.{AreBlocks, IsOutput, IsPart, graph_row, refused_row, world_row}
+use Rattle.graph_model.specs.Output.{AreBlocks, IsOutput, is_clean, is_clean_line, IsPart, graph_row, refused_row, world_row}
 use Rattle.graph_model.specs.QueryLine.{if_answered, query_of, query_said}
 use Rattle.query_script.proofs.Kept.{line-in-range}
 use Rattle.graph_model.specs.Range.{ask_in_range, each_in_range, op_in_range, query_in_range}
+use Rattle.graph_model.specs.Refusal.{RecordRefusal}
 use Rattle.graph_model.specs.Reading.{Reading, base_world, reading}
 use Rattle.graph_model.specs.RowText.{rows_text, world_text}
 use Rattle.graph_model.specs.Script.{QueryRefusal, Unbuilt, lines_of}
@@ -135,3 +136,12 @@ pub left_written : (is_answered : Query → Bool) (model : Model) (bytes : List 
     ↔ ((blocks : List (List (List ℕ))) × AreBlocks is_answered w 1 (lines_of script) blocks × (text ≡ rows_text (graph_row model w.bounds (length w.events) 0 ∷ blocks)))
 left_written is_answered model bytes query w script text range k =
     written_same is_answered model (world_text w) script text (given w.bounds w.events w.types) w (left_said model bytes query w range k) (left_again model bytes query w range k)
+
+-- ---- nothing of it is refused
+
+clean_same : (is_answered : Query → Bool) (model : Model) (bytes script : List ℕ) → (reading model bytes).refused ≡ [] → is_clean is_answered model bytes script ≡ list_all (is_clean_line is_answered) (lines_of script)
+unfolding is_clean
+clean_same is_answered model bytes script none = ap (λ (refused : List (ℕ × RecordRefusal)). (length refused == 0) && list_all (is_clean_line is_answered) (lines_of script)) none
+
+pub world_clean : (is_answered : Query → Bool) (w : World) (script : List ℕ) → IsPrintable w → is_clean is_answered w.model (world_text w) script ≡ list_all (is_clean_line is_answered) (lines_of script)
+world_clean is_answered w script h = clean_same is_answered w.model (world_text w) script (ap (λ (r : Reading). r.refused) (world_said w h))

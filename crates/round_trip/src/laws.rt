@@ -4,7 +4,7 @@ ghost use Rattle.std.specs.List.{Contains, list_all};
 ghost use Rattle.csv.specs.Writing.{default_writer, row_text};
 ghost use Rattle.graph_model.specs.Answer.{row_fields, world_rows};
 ghost use Rattle.graph_model.specs.Entity.{props_of};
-ghost use Rattle.graph_model.specs.Output.{AreBlocks, IsOutput, IsPart, graph_row, world_row};
+ghost use Rattle.graph_model.specs.Output.{AreBlocks, IsOutput, IsPart, is_clean, is_clean_line, graph_row, world_row};
 ghost use Rattle.graph_model.specs.PropertyField.{has_no_colon};
 ghost use Rattle.graph_model.specs.QueryLine.{query_of};
 ghost use Rattle.graph_model.specs.Range.{op_in_range, query_in_range};
@@ -61,11 +61,12 @@ pub fn materialise_prints_the_text_of_a_world()
     ensures text { (w : World) (part : List (List (List ℕ))) → IsPart w Materialise part → rows_text part ≡ row_text default_writer (world_row w.bounds (length (world_rows w))) ++ world_text w }
 {}
 
-/// For every script, what is written for the text of a world that can be printed has the row of its graph, in which no record is refused, and the blocks of that world; so each question has the rows that it has on the world. So it is of each world that a query leaves of an events file.
+/// For every script, what is written for the text of a world that can be printed has the row of its graph, in which no record is refused, and the blocks of that world; so each question has the rows that it has on the world. Nothing is refused where no line of the script is. So it is of each world that a query leaves of an events file.
 pub fn a_printed_world_is_answered_as_the_world()
     ensures printable { (is_answered : Query → Bool) (w : World) (script text : List ℕ) → IsPrintable w
         → IsOutput is_answered w.model (world_text w) script text
         ↔ ((blocks : List (List (List ℕ))) × AreBlocks is_answered w 1 (lines_of script) blocks × (text ≡ rows_text (graph_row w.model w.bounds (length w.events) 0 ∷ blocks))) }
+    ensures clean { (is_answered : Query → Bool) (w : World) (script : List ℕ) → IsPrintable w → is_clean is_answered w.model (world_text w) script ≡ list_all (is_clean_line is_answered) (lines_of script) }
     ensures left { (is_answered : Query → Bool) (model : Model) (bytes : List ℕ) (query : Query) (w : World) (script text : List ℕ) → IsTrue (query_in_range query) → Contains (worlds_left model bytes query) w
         → IsOutput is_answered model (world_text w) script text
         ↔ ((blocks : List (List (List ℕ))) × AreBlocks is_answered w 1 (lines_of script) blocks × (text ≡ rows_text (graph_row model w.bounds (length w.events) 0 ∷ blocks))) }
