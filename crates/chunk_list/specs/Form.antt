@@ -8,21 +8,21 @@ use Rattle.chunk_list.specs.Spaced.{Spaced}
 abbrev pub form_view : {T : Type 0} → Form T → Spaced T
 form_view Empty = record { items = []; spare = 1 }
 form_view (One a) = record { items = a ∷ []; spare = 0 }
-form_view (Flat v) = record { items = v.value.items; spare = min (vec_capacity v.value) 256 - vec_len v.value }
+form_view (Flat v) = record { items = v.items; spare = min (vec_capacity v) 256 - vec_len v }
 form_view (Long p) = p.value
 
 -- a flat list is no longer than a part
 abbrev pub IsShort : {T : Type 0} → Form T → Type 0
 IsShort Empty = ⊤
 IsShort (One a) = ⊤
-IsShort (Flat v) = vec_len v.value ≤ 256
+IsShort (Flat v) = vec_len v ≤ 256
 IsShort (Long p) = ⊤
 
 -- one more item fits in this form
 abbrev pub TakesMore : {T : Type 0} → Form T → Type 0
 TakesMore Empty = ⊤
 TakesMore (One a) = ⊥
-TakesMore (Flat v) = vec_len v.value < 256
+TakesMore (Flat v) = vec_len v < 256
 TakesMore (Long p) = ⊤
 
 -- another form of the same items, where this one is full

@@ -16,7 +16,7 @@ enum Form<T: Copy + Default> {
     Empty,
     One(T),
     /// At most as many as a part takes.
-    Flat(Box<Vec<T>>),
+    Flat(Vec<T>),
     Long(Box<Parts<T>>),
 }
 
@@ -57,7 +57,7 @@ fn next_form<T: Copy + Default>(
         Form::One(first) => {
             let mut items = Vec::with_capacity(alloc, 2)?;
             items.push(*first)?;
-            Ok(Some(Form::Flat(Box::new(alloc, items)?)))
+            Ok(Some(Form::Flat(items)))
         }
         Form::Flat(items) if items.len() == MOST => {
             let parts = Parts::new(alloc, items.as_slice())?;
