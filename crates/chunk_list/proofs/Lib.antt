@@ -1,3 +1,4 @@
 pub mod Joined
+pub mod Pairing
 pub mod Sums
 pub mod Middles

@@ -1,4 +1,5 @@
 pub mod Spaced
+pub mod Pairs
 pub mod Parts
 pub mod Form
 pub mod Groups

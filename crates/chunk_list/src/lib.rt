@@ -1,6 +1,8 @@
-//! A list that takes insertions at any place, in parts of a bounded length.
+//! A list of keys, and what stands beside each, that takes insertions at any place, in parts of a bounded
+//! length.
 #![tactic(auto)]
 
+mod columns;
 mod list;
 mod near;
 mod part;

@@ -1,41 +1,50 @@
 //! The list.
-ghost use Rattle.std.specs.Prelude.{◌≡◌, ◌+◌, ◌<◌, ◌≤◌, [], length, slice_index_or, vec_len, MatchOption, IfOk, OnOk, OnErr, IsOk};
-ghost use Rattle.std.specs.Vec.{vec_capacity};
+ghost use Rattle.std.specs.Prelude.{◌≡◌, ◌+◌, ◌<◌, ◌≤◌, [], length, slice_index_or, MatchOption, IfOk, OnOk, OnErr, IsOk};
 ghost use Rattle.std.specs.List.{insert};
 ghost use Rattle.chunk_list.specs.Middle.{IsMiddle};
+ghost use Rattle.chunk_list.specs.Pairs.{keys_of};
 
+use crate::columns::{Columns, reserve_block};
 use crate::near::{Near, exact_middle};
 use crate::part::MOST;
 use crate::parts::Parts;
 use std::alloc::{AllocError, Global};
 use std::marker::Model;
 
+/// How many items lie whole in one block.
+const FEW: usize = 8;
+
 /// How the items lie in memory.
 #[derive(Drop)]
-enum Form<T: Copy + Default> {
+enum Form<K: Copy + Default, V: Copy + Default> {
     Empty,
-    One(T),
+    One((K, V)),
+    /// At most `FEW`.
+    Few(Vec<(K, V)>),
     /// At most as many as a part takes.
-    Flat(Vec<T>),
-    Long(Box<Parts<T>>),
+    Flat(Box<Columns<K, V>>),
+    Long(Box<Parts<K, V>>),
 }
 
-/// A list that takes insertions at any place. A contract sees its items, and how many more it takes
-/// without memory. One item takes no memory of its own. A long list lies in parts of at most 256
-/// items, and a part that is full is split in two.
+/// A list of items, each a key and what stands beside it, that takes insertions at any place. A contract
+/// sees its items, and how many more it takes without memory. One item takes no memory of its own, and up
+/// to 8 lie whole in one block. The keys of a longer list lie side by side, and what stands beside them
+/// lies apart. A list of more than 256 items lies in parts of at most 256, and a part that is full is
+/// split in two.
 #[derive(Drop)]
-pub struct ChunkList<T: Copy + Default> {
-    form: Form<T>,
+pub struct ChunkList<K: Copy + Default, V: Copy + Default> {
+    form: Form<K, V>,
     alloc: Global,
 }
 
-impl<T: Copy + Default> Model for ChunkList<T> {
+impl<K: Copy + Default, V: Copy + Default> Model for ChunkList<K, V> {
+    ghost use Rattle.std.specs.Coded.{coded×};
     ghost use Rattle.chunk_list.specs.Spaced.{Spaced, spaced_code};
     ghost use Rattle.chunk_list.specs.Form.{form_view, IsShort};
 
-    ghost Value = { Spaced T };
+    ghost Value = { Spaced (K × V) };
 
-    ghost coded = { spaced_code T.code };
+    ghost coded = { spaced_code (coded× K.code V.code) };
 
     ghost view = { λ a. form_view a.form };
 
@@ -44,11 +53,41 @@ impl<T: Copy + Default> Model for ChunkList<T> {
 
 ghost use Rattle.chunk_list.specs.Form.{form_view, IsShort, TakesMore, Replaces};
 
-/// The form that comes next, where one takes no more items.
-fn next_form<T: Copy + Default>(
+/// The columns of a few items, with room for as many and half as many again.
+fn columns_of<K: Copy, V: Copy>(
     alloc: Global,
-    form: &Form<T>,
-) -> Result<Option<Form<T>>, AllocError>
+    items: &[(K, V)],
+) -> Result<Columns<K, V>, AllocError>
+    requires { length items.now ≤ FEW }
+    ensures items { IfOk result (λ columns. columns.items ≡ items.now) }
+    ensures room { IfOk result (λ columns. 0 < columns.spare) }
+{
+    let mut columns = Columns::new(alloc, FEW + FEW / 2)?;
+    for (i, item) in items.iter().enumerate() {
+        columns.put(i, *item);
+    }
+    Ok(columns)
+}
+
+/// The items of full columns in parts.
+fn long_form<K: Copy + Default, V: Copy + Default>(
+    alloc: Global,
+    columns: &Columns<K, V>,
+) -> Result<Form<K, V>, AllocError>
+    requires { length columns.now.items ≤ MOST }
+    ensures items { IfOk result (λ form. (form_view form).items ≡ columns.now.items) }
+    ensures room { IfOk result (λ form. 0 < (form_view form).spare) }
+    ensures short { IfOk result IsShort }
+{
+    let parts = Parts::new(alloc, columns)?;
+    Ok(Form::Long(Box::new(alloc, parts)?))
+}
+
+/// The form that comes next, where one takes no more items.
+fn next_form<K: Copy + Default, V: Copy + Default>(
+    alloc: Global,
+    form: &Form<K, V>,
+) -> Result<Option<Form<K, V>>, AllocError>
     requires { IsShort form.now }
     ensures next { IfOk result (λ next. MatchOption next (TakesMore form.now) (Replaces form.now)) }
     ensures free { 0 < (form_view form.now).spare → IsOk result }
@@ -57,36 +96,20 @@ fn next_form<T: Copy + Default>(
         Form::One(first) => {
             let mut items = Vec::with_capacity(alloc, 2)?;
             items.push(*first)?;
-            Ok(Some(Form::Flat(items)))
+            Ok(Some(Form::Few(items)))
         }
-        Form::Flat(items) if items.len() == MOST => {
-            let parts = Parts::new(alloc, items.as_slice())?;
-            Ok(Some(Form::Long(Box::new(alloc, parts)?)))
+        Form::Few(items) if items.len() == FEW => {
+            let columns = columns_of(alloc, items.as_slice())?;
+            Ok(Some(Form::Flat(Box::new(alloc, columns)?)))
         }
+        Form::Flat(columns) if columns.len() == MOST => Ok(Some(long_form(alloc, columns)?)),
         _ => Ok(None),
     }
 }
 
-/// Makes room for one more item, and for half as many again, but for no more than a part takes.
-fn reserve_flat<T: Copy>(items: &mut Vec<T>) -> Result<(), AllocError>
-    requires { vec_len items.old < MOST }
-    ensures items { items.new.items ≡ items.old.items }
-    ensures len { vec_len items.new ≡ vec_len items.old }
-    ensures room { OnOk result (vec_len items.new < vec_capacity items.new) }
-    ensures capacity { vec_capacity items.old ≤ vec_capacity items.new }
-    ensures free { vec_len items.old < vec_capacity items.old → IsOk result }
-    ensures err { OnErr result (vec_capacity items.new ≡ vec_capacity items.old) }
-{
-    let len = items.len();
-    if len < items.capacity() {
-        return Ok(());
-    }
-    items.reserve_exact((len / 2 + 1).min(MOST - len))
-}
-
-impl<T: Copy + Default> ChunkList<T> {
+impl<K: Copy + Default, V: Copy + Default> ChunkList<K, V> {
     /// No item. The first takes no memory.
-    pub fn new(alloc: Global) -> ChunkList<T>
+    pub fn new(alloc: Global) -> ChunkList<K, V>
         ensures items { result.items ≡ [] }
         ensures spare { result.spare ≡ 1 }
     {
@@ -102,21 +125,37 @@ impl<T: Copy + Default> ChunkList<T> {
         match &self.form {
             Form::Empty => 0,
             Form::One(_) => 1,
-            Form::Flat(items) => items.len(),
+            Form::Few(items) => items.len(),
+            Form::Flat(columns) => columns.len(),
             Form::Long(parts) => parts.len(),
         }
     }
 
     /// The item at a place, which is looked for first where a search stands.
-    pub fn get(&self, i: usize, near: Near) -> T
+    pub fn get(&self, i: usize, near: Near) -> (K, V)
         requires { i < length self.now.items }
         ensures { result ≡ slice_index_or self.now.items i result }
     {
         match &self.form {
-            Form::Empty => T::default(),
+            Form::Empty => (K::default(), V::default()),
             Form::One(item) => *item,
-            Form::Flat(items) => items[i],
+            Form::Few(items) => items[i],
+            Form::Flat(columns) => columns.get(i),
             Form::Long(parts) => parts.get(i, near),
+        }
+    }
+
+    /// The key at a place, which is looked for first where a search stands.
+    pub fn key(&self, i: usize, near: Near) -> K
+        requires { i < length self.now.items }
+        ensures { result ≡ slice_index_or (keys_of self.now.items) i result }
+    {
+        match &self.form {
+            Form::Empty => K::default(),
+            Form::One(item) => item.0,
+            Form::Few(items) => items[i].0,
+            Form::Flat(columns) => columns.key(i),
+            Form::Long(parts) => parts.key(i, near),
         }
     }
 
@@ -152,23 +191,25 @@ impl<T: Copy + Default> ChunkList<T> {
             return Ok(());
         }
         match &mut self.form {
-            Form::Flat(items) => reserve_flat(items),
+            Form::Few(items) => reserve_block(items, FEW),
+            Form::Flat(columns) => columns.reserve(MOST),
             Form::Long(parts) => parts.reserve(),
             _ => Ok(()),
         }
     }
 
     /// Puts an item before the one at a place, where there is room for one more.
-    pub fn put(&mut self, i: usize, item: T)
+    pub fn put(&mut self, i: usize, item: (K, V))
         requires place { i ≤ length self.old.items }
         requires room { 0 < self.old.spare }
         ensures items { self.new.items ≡ insert self.old.items i item }
         ensures spare { self.old.spare ≤ self.new.spare + 1 }
     {
         match &mut self.form {
-            Form::Flat(items) => {
+            Form::Few(items) => {
                 let _ = items.insert(i, item);
             }
+            Form::Flat(columns) => columns.put(i, item),
             Form::Long(parts) => parts.put(i, item),
             few => *few = Form::One(item),
         }

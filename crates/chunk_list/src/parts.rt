@@ -4,7 +4,9 @@ ghost use Rattle.std.specs.List.{insert};
 ghost use Rattle.std.specs.Vec.{vec_capacity};
 ghost use Rattle.chunk_list.specs.Parts.{joined, part_at, starts};
 ghost use Rattle.chunk_list.specs.Middle.{IsMiddle};
+ghost use Rattle.chunk_list.specs.Pairs.{keys_of};
 
+use crate::columns::Columns;
 use crate::near::{Near, exact_middle, is_middle};
 use crate::part::{MOST, Part};
 use crate::places::Places;
@@ -12,7 +14,7 @@ use std::alloc::{AllocError, Global};
 use std::marker::Model;
 
 /// The part of a place, which may be the one at hand.
-fn part_of<T: Copy>(firsts: &Places, parts: &[Part<T>], i: usize, hand: usize) -> usize
+fn part_of<K: Copy, V: Copy>(firsts: &Places, parts: &[Part<K, V>], i: usize, hand: usize) -> usize
     requires firsts { firsts.now.items ≡ starts 0 parts.now }
     requires some { 0 < length parts.now }
     requires place { i < length (joined parts.now) }
@@ -30,7 +32,13 @@ fn part_of<T: Copy>(firsts: &Places, parts: &[Part<T>], i: usize, hand: usize) -
 }
 
 /// Puts an item in a part that is not full.
-fn put_in<T: Copy>(firsts: &mut Places, parts: &mut Vec<Part<T>>, at: usize, i: usize, item: T)
+fn put_in<K: Copy, V: Copy>(
+    firsts: &mut Places,
+    parts: &mut Vec<Part<K, V>>,
+    at: usize,
+    i: usize,
+    item: (K, V),
+)
     requires firsts { firsts.old.items ≡ starts 0 parts.old.items }
     requires part { at < vec_len parts.old }
     requires low { slice_index firsts.old.items at ≤ i }
@@ -50,10 +58,10 @@ fn put_in<T: Copy>(firsts: &mut Places, parts: &mut Vec<Part<T>>, at: usize, i: 
 }
 
 /// Splits a part, whose upper items go to a fresh one.
-fn split<T: Copy>(
+fn split<K: Copy, V: Copy>(
     firsts: &mut Places,
-    parts: &mut Vec<Part<T>>,
-    mut fresh: Part<T>,
+    parts: &mut Vec<Part<K, V>>,
+    mut fresh: Part<K, V>,
     at: usize,
     cut: usize,
 )
@@ -81,13 +89,13 @@ fn split<T: Copy>(
 
 /// Puts an item in a part that is full, by splitting it. What comes after the last item goes to a part
 /// of its own, so that a list that grows at its end has full parts.
-fn put_in_full<T: Copy>(
+fn put_in_full<K: Copy, V: Copy>(
     firsts: &mut Places,
-    parts: &mut Vec<Part<T>>,
-    fresh: Part<T>,
+    parts: &mut Vec<Part<K, V>>,
+    fresh: Part<K, V>,
     at: usize,
     i: usize,
-    item: T,
+    item: (K, V),
 )
     requires firsts { firsts.old.items ≡ starts 0 parts.old.items }
     requires part { at < vec_len parts.old }
@@ -118,23 +126,24 @@ fn put_in_full<T: Copy>(
 
 /// The items in parts, the first place of each part, and a part at hand for the next that is split.
 #[derive(Drop)]
-pub(crate) struct Parts<T: Copy> {
+pub(crate) struct Parts<K: Copy, V: Copy> {
     firsts: Places,
-    parts: Vec<Part<T>>,
+    parts: Vec<Part<K, V>>,
     len: usize,
-    fresh: Option<Part<T>>,
+    fresh: Option<Part<K, V>>,
     alloc: Global,
 }
 
-impl<T: Copy> Model for Parts<T> {
+impl<K: Copy, V: Copy> Model for Parts<K, V> {
     ghost use Rattle.std.specs.Prelude.{◌-◌, min, vec_len};
     ghost use Rattle.std.specs.Vec.{vec_capacity};
+    ghost use Rattle.std.specs.Coded.{coded×};
     ghost use Rattle.chunk_list.specs.Spaced.{Spaced, spaced_code};
     ghost use Rattle.chunk_list.specs.Parts.{joined, IsSound, at_hand};
 
-    ghost Value = { Spaced T };
+    ghost Value = { Spaced (K × V) };
 
-    ghost coded = { spaced_code T.code };
+    ghost coded = { spaced_code (coded× K.code V.code) };
 
     ghost view = { λ a. record {
       items = joined a.parts.items;
@@ -144,18 +153,18 @@ impl<T: Copy> Model for Parts<T> {
     ghost invariant = { λ a. IsSound a.firsts.items a.parts.items a.len a.fresh };
 }
 
-impl<T: Copy> Parts<T> {
+impl<K: Copy, V: Copy> Parts<K, V> {
     /// One part.
-    pub(crate) fn new(alloc: Global, items: &[T]) -> Result<Parts<T>, AllocError>
-        requires { length items.now ≤ MOST }
-        ensures items { IfOk result (λ parts. parts.items ≡ items.now) }
+    pub(crate) fn new(alloc: Global, items: &Columns<K, V>) -> Result<Parts<K, V>, AllocError>
+        requires { length items.now.items ≤ MOST }
+        ensures items { IfOk result (λ parts. parts.items ≡ items.now.items) }
         ensures room { IfOk result (λ parts. 0 < parts.spare) }
     {
         let firsts = Places::new(alloc)?;
         let mut parts = Vec::with_capacity(alloc, 4)?;
-        let fresh = Some(Part::new(alloc, &[])?);
+        let fresh = Some(Part::new(alloc)?);
         let len = items.len();
-        parts.push(Part::new(alloc, items)?)?;
+        parts.push(Part::copied(alloc, items)?)?;
         Ok(Parts {
             firsts,
             parts,
@@ -172,12 +181,21 @@ impl<T: Copy> Parts<T> {
     }
 
     /// The item at a place, which is looked for first where a search stands.
-    pub(crate) fn get(&self, i: usize, near: Near) -> T
+    pub(crate) fn get(&self, i: usize, near: Near) -> (K, V)
         requires { i < length self.now.items }
         ensures { result ≡ slice_index_or self.now.items i result }
     {
         let at = part_of(&self.firsts, self.parts.as_slice(), i, near.part());
         self.parts[at].get(i - self.firsts.get(at))
+    }
+
+    /// The key at a place, which is looked for first where a search stands.
+    pub(crate) fn key(&self, i: usize, near: Near) -> K
+        requires { i < length self.now.items }
+        ensures { result ≡ slice_index_or (keys_of self.now.items) i result }
+    {
+        let at = part_of(&self.firsts, self.parts.as_slice(), i, near.part());
+        self.parts[at].key(i - self.firsts.get(at))
     }
 
     /// Where a search from one place up to another begins.
@@ -224,13 +242,13 @@ impl<T: Copy> Parts<T> {
         self.firsts.reserve()?;
         self.parts.reserve(1)?;
         if self.fresh.is_none() {
-            self.fresh = Some(Part::new(self.alloc, &[])?);
+            self.fresh = Some(Part::new(self.alloc)?);
         }
         Ok(())
     }
 
     /// Puts an item before the one at a place, where there is room for one more.
-    pub(crate) fn put(&mut self, i: usize, item: T)
+    pub(crate) fn put(&mut self, i: usize, item: (K, V))
         requires place { i ≤ length self.old.items }
         requires room { 0 < self.old.spare }
         ensures items { self.new.items ≡ insert self.old.items i item }

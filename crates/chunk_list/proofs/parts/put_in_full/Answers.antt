@@ -1,4 +1,5 @@
-use Rattle.std.proofs.Common.{ap, arith, length, length-drop}
+use Rattle.std.proofs.Common.{ap, arith, length, length-drop, ◌∙◌}
+use Rattle.std.specs.List.{insert}
 use Rattle.std.proofs.lemmas.List.{length-take}
 use Rattle.chunk_list.specs.Parts.{part_at}
 use Rattle.chunk_list.proofs.Joined.{length-starts}
@@ -32,3 +33,9 @@ pub put_in-requires-else-offset-clause-room : goal.put_in-requires-else-offset-c
 put_in-requires-else-offset-clause-room g c =
     let q = part_at c.args.parts.now.items c.args.at in
     omega (arith, c.get.ensures, c.requires.low, c.requires.high, c.requires.full, c.split-2.ensures.first, c.split-2.ensures.next, ap length c.split-2.ensures.lower, ap length c.split-2.ensures.upper, length-take 128 q, length-drop 128 q)
+
+pub put_in-requires-clause-fits : goal.put_in-requires-clause-fits
+put_in-requires-clause-fits g c = omega (arith, c.requires.fits, ap length c.split.ensures.items)
+
+pub returns-then-offset-eq-MOST-clause-items : goal.returns-then-offset-eq-MOST-clause-items
+returns-then-offset-eq-MOST-clause-items g c = c.put_in.ensures.items ∙ ap (λ xs. insert xs c.args.i c.args.item) c.split.ensures.items
