@@ -224,7 +224,7 @@ impl<K: Copy, V: Copy> Parts<K, V> {
             return place;
         }
         let place = exact_middle(from, to);
-        near.look(self.firsts.last_at_most(place), false);
+        near.look(self.firsts.last_within(low, last, place), false);
         place
     }
 

@@ -192,6 +192,29 @@ impl Places {
         last_at_most(self.own.as_slice(), from, to, i - self.groups[group])
     }
 
+    /// The last place from one to another whose number is at most `i`, or the first of them where that is
+    /// greater.
+    pub(crate) fn last_within(&self, from: usize, to: usize, i: usize) -> usize
+        requires order { from ≤ to }
+        requires within { to < length self.now.items }
+        ensures from { from ≤ result }
+        ensures to { result ≤ to }
+        ensures here { slice_index self.now.items from ≤ i → slice_index self.now.items result ≤ i }
+        ensures next { result < to → i < slice_index self.now.items (result + 1) }
+    {
+        let mut low = from;
+        let mut high = to;
+        while low < high {
+            let mid = high - (high - low) / 2;
+            if self.get(mid) <= i {
+                low = mid;
+            } else {
+                high = mid - 1;
+            }
+        }
+        low
+    }
+
     /// Adds one to each number from a place on.
     pub(crate) fn shift(&mut self, from: usize)
         requires from { from ≤ length self.old.items }

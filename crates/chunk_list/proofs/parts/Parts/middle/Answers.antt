@@ -1,5 +1,5 @@
 use Rattle.std.proofs.Common.{ap, arith, length}
-use Rattle.chunk_list.proofs.Joined.{length-starts, begins_at_zero}
+use Rattle.chunk_list.proofs.Joined.{length-starts}
 use Rattle.chunk_list.proofs.parts.Parts.middle.Goals as goal
 
 pub get-place-requires : goal.get-place-requires
@@ -7,8 +7,7 @@ get-place-requires g c =
     let ps = c.self.inside.parts in
     omega (arith, c.min-last.ensures, c.len.ensures, ps.ok.0, c.if-low-last.false, ap length c.self.invariant.begins, length-starts 0 ps.items, c.self.invariant.some)
 
-pub last_at_most-requires-clause-some : goal.last_at_most-requires-clause-some
-last_at_most-requires-clause-some g c = omega (arith, ap length c.self.invariant.begins, length-starts 0 c.self.inside.parts.items, c.self.invariant.some)
-
-pub last_at_most-requires-clause-first : goal.last_at_most-requires-clause-first
-last_at_most-requires-clause-first g c = omega (arith, begins_at_zero c.self.inside.firsts.items c.self.inside.parts.items c.self.invariant.begins)
+pub last_within-requires-clause-within : goal.last_within-requires-clause-within
+last_within-requires-clause-within g c =
+    let ps = c.self.inside.parts in
+    omega (arith, c.min-last.ensures, c.len.ensures, ps.ok.0, ap length c.self.invariant.begins, length-starts 0 ps.items, c.self.invariant.some)
