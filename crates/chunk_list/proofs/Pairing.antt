@@ -3,7 +3,7 @@ use Rattle.std.proofs.Common.{◌≡◌, ℕ, zero, suc, ◌+◌, ◌-◌, ◌<�
 use Rattle.std.specs.List.{insert, zip}
 use Rattle.std.proofs.lemmas.List.{get_or-map}
 use Rattle.std.proofs.lemmas.Slice.Zip.{length-zip, firsts-zip, get_or-zip}
-use Rattle.chunk_list.specs.Pairs.{keys_of}
+use Rattle.std.specs.Map.{keys_of}
 use Rattle.chunk_list.specs.Parts.{joined, part_at, starts}
 use Rattle.chunk_list.proofs.Joined.{item_at}
 

@@ -1,5 +1,4 @@
 pub mod Spaced
-pub mod Pairs
 pub mod Parts
 pub mod Form
 pub mod Groups

@@ -2,7 +2,7 @@
 ghost use Rattle.std.specs.Prelude.{◌≡◌, ◌+◌, ◌-◌, ◌<◌, ◌≤◌, ◌++◌, [], length, take, drop, slice_index_or, vec_len, IfOk, OnOk, OnErr, IsOk};
 ghost use Rattle.std.specs.Vec.{vec_capacity};
 ghost use Rattle.std.specs.List.{insert};
-ghost use Rattle.chunk_list.specs.Pairs.{keys_of};
+ghost use Rattle.std.specs.Map.{keys_of};
 
 use std::alloc::{AllocError, Global};
 use std::marker::Model;

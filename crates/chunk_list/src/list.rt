@@ -2,7 +2,7 @@
 ghost use Rattle.std.specs.Prelude.{◌≡◌, ◌+◌, ◌<◌, ◌≤◌, [], length, slice_index_or, MatchOption, IfOk, OnOk, OnErr, IsOk};
 ghost use Rattle.std.specs.List.{insert};
 ghost use Rattle.chunk_list.specs.Middle.{IsMiddle};
-ghost use Rattle.chunk_list.specs.Pairs.{keys_of};
+ghost use Rattle.std.specs.Map.{keys_of};
 
 use crate::columns::{Columns, reserve_block};
 use crate::near::{Near, exact_middle};

@@ -1,7 +1,7 @@
 //! A part of a long list.
 ghost use Rattle.std.specs.Prelude.{◌≡◌, ◌<◌, ◌≤◌, [], length, take, drop, slice_index_or, IfOk};
 ghost use Rattle.std.specs.List.{insert};
-ghost use Rattle.chunk_list.specs.Pairs.{keys_of};
+ghost use Rattle.std.specs.Map.{keys_of};
 
 use crate::columns::Columns;
 use std::alloc::{AllocError, Global};

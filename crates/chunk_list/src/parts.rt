@@ -4,7 +4,7 @@ ghost use Rattle.std.specs.List.{insert};
 ghost use Rattle.std.specs.Vec.{vec_capacity};
 ghost use Rattle.chunk_list.specs.Parts.{joined, part_at, starts};
 ghost use Rattle.chunk_list.specs.Middle.{IsMiddle};
-ghost use Rattle.chunk_list.specs.Pairs.{keys_of};
+ghost use Rattle.std.specs.Map.{keys_of};
 
 use crate::columns::Columns;
 use crate::near::{Near, exact_middle, is_middle};

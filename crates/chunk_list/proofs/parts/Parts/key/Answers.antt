@@ -1,6 +1,6 @@
 use Rattle.std.proofs.Common.{◌<◌, ◌+◌, ◌∙◌, ap, arith, length, get_or, []}
 use Rattle.chunk_list.specs.Parts.{joined, part_at}
-use Rattle.chunk_list.specs.Pairs.{keys_of}
+use Rattle.std.specs.Map.{keys_of}
 use Rattle.chunk_list.proofs.Joined.{length-starts, read_at}
 use Rattle.chunk_list.proofs.Pairing.{found_key}
 use Rattle.chunk_list.proofs.parts.Parts.key.Goals as goal
