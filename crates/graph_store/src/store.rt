@@ -159,16 +159,18 @@ impl Store {
         self.layers.len()
     }
 
-    /// How many keys of nodes there are.
+    /// How many keys of nodes there are, 256 at the most. Their numbers are below that.
     pub fn node_keys(&self) -> u32
-        ensures { result ≡ length self.now.node_keys }
+        ensures len { result ≡ length self.now.node_keys }
+        ensures few { result ≤ 256 }
     {
         self.node_keys.len()
     }
 
-    /// How many keys of edges there are.
+    /// How many keys of edges there are, 256 at the most. Their numbers are below that.
     pub fn edge_keys(&self) -> u32
-        ensures { result ≡ length self.now.edge_keys }
+        ensures len { result ≡ length self.now.edge_keys }
+        ensures few { result ≤ 256 }
     {
         self.edge_keys.len()
     }
