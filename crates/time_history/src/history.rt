@@ -14,11 +14,11 @@ ghost use Rattle.time_history.specs.Spans.{carries, IsSpan, IsCut, IsTaken, IsPa
 ghost use Rattle.time_history.specs.History.{lacks_blank, with_blank, blank_place};
 ghost use Rattle.time_history.specs.Asked.{IsAliveAt, HappensAt, IsPresent, IsLastKind, IsValue, IsValueIn, IsNextUpdate, IsNextContact, is_final_at};
 
+use crate::few::Few;
 use crate::search::{Probe, first_after, last_place};
 use crate::span::Span;
 use crate::updates::{KeyValues, Kind, Update};
 use graph_model::{Bounds, Model as Lasting, Value};
-use smallvec::SmallVec;
 use std::alloc::{AllocError, Global};
 use std::marker::Model;
 use std::sync::ledger::Ledger;
@@ -44,30 +44,30 @@ struct Detail {
 }
 
 /// Whether the values of one update stand alone, so that no place stands for updates without values.
-fn lacks_blank(values: &[KeyValues]) -> bool
-    ensures { result ≡ lacks_blank values.now }
+fn lacks_blank(values: &Few<KeyValues>) -> bool
+    ensures { result ≡ lacks_blank values.now.items }
 {
-    values.len() == 1 && values[0].len() > 0
+    values.len() == 1 && values.get(0).len() > 0
 }
 
 /// The place that stands for updates without values.
-fn blank_place(values: &[KeyValues]) -> u32
-    requires { 0 < length values.now }
-    ensures { result ≡ blank_place values.now }
+fn blank_place(values: &Few<KeyValues>) -> u32
+    requires { 0 < length values.now.items }
+    ensures { result ≡ blank_place values.now.items }
 {
-    if values[0].len() == 0 { 0 } else { 1 }
+    if values.get(0).len() == 0 { 0 } else { 1 }
 }
 
 /// Whether an update with these values takes a place of its own among the values of all updates.
-fn takes_place(values: &[KeyValues], props: &KeyValues) -> bool
-    ensures { result ≡ (nat_lt 0 (length props.now) || length values.now == 0) }
+fn takes_place(values: &Few<KeyValues>, props: &KeyValues) -> bool
+    ensures { result ≡ (nat_lt 0 (length props.now) || length values.now.items == 0) }
 {
     props.len() > 0 || values.len() == 0
 }
 
 /// Makes room for the values of one more update. Where the values of one stand alone, a place is made
 /// beside them for updates without values.
-fn reserve_values(values: &mut SmallVec<KeyValues, 1>, props: &KeyValues) -> Result<(), AllocError>
+fn reserve_values(values: &mut Few<KeyValues>, props: &KeyValues) -> Result<(), AllocError>
     ensures items { OnOk result (values.new.items ≡ with_blank values.old.items) }
     ensures room { OnOk result (0 < length props.now → length values.new.items < values.new.capacity) }
     ensures first { OnOk result (length values.new.items ≡ 0 → 0 < values.new.capacity) }
@@ -75,13 +75,13 @@ fn reserve_values(values: &mut SmallVec<KeyValues, 1>, props: &KeyValues) -> Res
     ensures capacity { values.old.capacity ≤ values.new.capacity }
     ensures err { OnErr result (values.new ≡ values.old) }
 {
-    if lacks_blank(values.as_slice()) {
+    if lacks_blank(values) {
         values.reserve(2)?;
-        let blank = KeyValues::new(*values.allocator());
+        let blank = KeyValues::new(values.allocator());
         values.push_reserved(blank);
         return Ok(());
     }
-    if takes_place(values.as_slice(), props) {
+    if takes_place(values, props) {
         return values.reserve(1);
     }
     Ok(())
@@ -93,7 +93,7 @@ fn reserve_values(values: &mut SmallVec<KeyValues, 1>, props: &KeyValues) -> Res
 pub struct History {
     column: TimeColumn<Detail>,
     // The first stands for all updates without values, or the second where the first update had values.
-    values: SmallVec<KeyValues, 1>,
+    values: Few<KeyValues>,
 }
 
 impl Model for History {
@@ -122,7 +122,7 @@ impl History {
     {
         History {
             column: TimeColumn::new(alloc),
-            values: SmallVec::new(alloc),
+            values: Few::new(alloc),
         }
     }
 
@@ -156,7 +156,8 @@ impl History {
         requires { i < length self.now.updates }
         ensures { result.now ≡ (update_at self.now.updates i).props }
     {
-        &self.values[self.column.beside_at(i as usize).values as usize]
+        self.values
+            .get(self.column.beside_at(i as usize).values as usize)
     }
 
     pub fn time_at<L: Ledger>(&self, i: u32, steps: &mut Steps<L>) -> i64
@@ -237,14 +238,14 @@ impl History {
             kind,
             props,
         } = update;
-        if takes_place(self.values.as_slice(), &props) {
+        if takes_place(&self.values, &props) {
             let values = self.values.len() as u32;
             let detail = Detail { kind, values };
             self.column.put(at, time, order, arrival, detail);
             self.values.push_reserved(props);
             return;
         }
-        let values = blank_place(self.values.as_slice());
+        let values = blank_place(&self.values);
         let detail = Detail { kind, values };
         self.column.put(at, time, order, arrival, detail);
     }

@@ -1,6 +1,7 @@
 //! The updates of one entity in the order of time, and spans of them.
 #![tactic(auto)]
 
+mod few;
 mod history;
 mod search;
 mod span;

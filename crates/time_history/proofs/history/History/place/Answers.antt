@@ -1,7 +1,6 @@
-use Rattle.std.proofs.Common.{arith, rules, SFits, w64, to_z, of_z, ap, ◌==◌, ◌||◌, nat_lt, length, ◌∙◌, sym, subst}
+use Rattle.std.proofs.Common.{arith, rules, SFits, w64, to_z, of_z, ap, length, ◌∙◌, sym, subst}
 use Rattle.std.proofs.lemmas.Int.{to_z-of_z}
 use Rattle.time_history.specs.KeyValues.{KeysRise}
-use Rattle.time_history.specs.History.{blank_place}
 use Rattle.time_history.proofs.Putting.{length_is, in_stamps, last_stamps, stamps_rise, sound_put, updates_put, sound_put_values, updates_put_values, takes_some, shared_place}
 use Rattle.time_history.proofs.history.History.place.Goals as goal
 
@@ -12,7 +11,7 @@ overflow_cast-values c =
     let fits : SFits w64 c.args.update.time = search rules in
     let same = to_z-of_z w64 c.args.update.time fits in
     let q = c.requires in
-    record { fits = omega (arith, c.len-values.ensures.value, c.self.invariant.few, c.self.invariant.lengths, length_is s.column.stamps s.column.besides s.values.items c.args.self.now.updates c.args.update c.args.at (to_z w64 (of_z w64 c.args.update.time)) c.self.invariant seen q.within same q.before q.after q.last, q.fits) }
+    record { fits = omega (arith, c.len-values.ensures, c.self.invariant.few, c.self.invariant.lengths, length_is s.column.stamps s.column.besides s.values.items c.args.self.now.updates c.args.update c.args.at (to_z w64 (of_z w64 c.args.update.time)) c.self.invariant seen q.within same q.before q.after q.last, q.fits) }
 
 pub put-requires-clause-place : goal.put-requires-clause-place
 put-requires-clause-place c =
@@ -96,7 +95,7 @@ invariant_of-self c =
     let same = to_z-of_z w64 c.args.update.time fits in
     let q = c.requires in
     let free = takes_some s.values.items s.values.capacity s.column.spare (omega (arith, ap (λ k. k.spare) c.self.view_is, q.room.update)) in
-    sound_put_values s.column.stamps s.column.besides s.values.items c.args.self.now.updates c.args.update c.args.at (to_z w64 (of_z w64 c.args.update.time)) c.self.invariant seen q.within same q.before q.after q.last c.put.new.self.stamps c.put.new.self.besides q.fits c.put.ensures.stamps c.push_reserved.new.self.items c.len-values.result free.0 c.len-values.ensures.value c.push_reserved.ensures.items (subst KeysRise c.props.view_is c.props.invariant) c.put.ensures.besides
+    sound_put_values s.column.stamps s.column.besides s.values.items c.args.self.now.updates c.args.update c.args.at (to_z w64 (of_z w64 c.args.update.time)) c.self.invariant seen q.within same q.before q.after q.last c.put.new.self.stamps c.put.new.self.besides q.fits c.put.ensures.stamps c.push_reserved.new.self.items c.len-values.result free.0 c.len-values.ensures c.push_reserved.ensures.items (subst KeysRise c.props.view_is c.props.invariant) c.put.ensures.besides
 
 pub returns-then-takes_place-clause-updates : goal.returns-then-takes_place-clause-updates
 returns-then-takes_place-clause-updates c =
@@ -106,7 +105,7 @@ returns-then-takes_place-clause-updates c =
     let same = to_z-of_z w64 c.args.update.time fits in
     let q = c.requires in
     let free = takes_some s.values.items s.values.capacity s.column.spare (omega (arith, ap (λ k. k.spare) c.self.view_is, q.room.update)) in
-    updates_put_values s.column.stamps s.column.besides s.values.items c.args.self.now.updates c.args.update c.args.at (to_z w64 (of_z w64 c.args.update.time)) c.self.invariant seen q.within same q.before q.after q.last c.put.new.self.stamps c.put.new.self.besides q.fits c.put.ensures.stamps c.push_reserved.new.self.items c.len-values.result free.0 c.len-values.ensures.value c.push_reserved.ensures.items c.put.ensures.besides
+    updates_put_values s.column.stamps s.column.besides s.values.items c.args.self.now.updates c.args.update c.args.at (to_z w64 (of_z w64 c.args.update.time)) c.self.invariant seen q.within same q.before q.after q.last c.put.new.self.stamps c.put.new.self.besides q.fits c.put.ensures.stamps c.push_reserved.new.self.items c.len-values.result free.0 c.len-values.ensures c.push_reserved.ensures.items c.put.ensures.besides
 
 pub invariant_of-self-2 : goal.invariant_of-self-2
 invariant_of-self-2 c =
@@ -116,8 +115,8 @@ invariant_of-self-2 c =
     let same = to_z-of_z w64 c.args.update.time fits in
     let q = c.requires in
     let free = takes_some s.values.items s.values.capacity s.column.spare (omega (arith, ap (λ k. k.spare) c.self.view_is, q.room.update)) in
-    let shared = shared_place (length c.args.update.props) (length s.values.items) (sym (ap (λ vs. nat_lt 0 (length c.args.update.props) || length vs == 0) c.as_slice.ensures) ∙ (sym c.takes_place.ensures ∙ c.if-takes_place.false)) in
-    let place = c.blank_place-values.ensures ∙ ap blank_place c.as_slice-2.ensures in
+    let shared = shared_place (length c.args.update.props) (length s.values.items) (sym c.takes_place.ensures ∙ c.if-takes_place.false) in
+    let place = c.blank_place-values.ensures in
     sound_put s.column.stamps s.column.besides s.values.items c.args.self.now.updates c.args.update c.args.at (to_z w64 (of_z w64 c.args.update.time)) c.self.invariant seen q.within same q.before q.after q.last c.put-2.new.self.stamps c.put-2.new.self.besides q.fits c.put-2.ensures.stamps c.blank_place-values.result shared.1 free.0 place c.put-2.ensures.besides
 
 pub returns-clause-updates : goal.returns-clause-updates
@@ -128,6 +127,6 @@ returns-clause-updates c =
     let same = to_z-of_z w64 c.args.update.time fits in
     let q = c.requires in
     let free = takes_some s.values.items s.values.capacity s.column.spare (omega (arith, ap (λ k. k.spare) c.self.view_is, q.room.update)) in
-    let shared = shared_place (length c.args.update.props) (length s.values.items) (sym (ap (λ vs. nat_lt 0 (length c.args.update.props) || length vs == 0) c.as_slice.ensures) ∙ (sym c.takes_place.ensures ∙ c.if-takes_place.false)) in
-    let place = c.blank_place-values.ensures ∙ ap blank_place c.as_slice-2.ensures in
+    let shared = shared_place (length c.args.update.props) (length s.values.items) (sym c.takes_place.ensures ∙ c.if-takes_place.false) in
+    let place = c.blank_place-values.ensures in
     updates_put s.column.stamps s.column.besides s.values.items c.args.self.now.updates c.args.update c.args.at (to_z w64 (of_z w64 c.args.update.time)) c.self.invariant seen q.within same q.before q.after q.last c.put-2.new.self.stamps c.put-2.new.self.besides q.fits c.put-2.ensures.stamps c.blank_place-values.result shared.1 free.0 place shared.0 c.put-2.ensures.besides
