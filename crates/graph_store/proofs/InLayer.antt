@@ -1,6 +1,6 @@
 -- An edge among those of its pair, found by its layer.
 use Rattle.std.proofs.Common.{◌≡◌, ℕ, suc, ◌+◌, ◌<◌, List, [], ◌∷◌, Bool, true, false, not, cond, Some, None, length, refl, sym, ap, ◌∙◌, arith, subst}
-use Rattle.std.specs.Prelude.{position, nat_lt, nat_eq, ◌==◌, ◌&&◌}
+use Rattle.std.specs.Prelude.{position, nat_lt, nat_eq, ◌==◌, ◌&&◌, slice_index_or}
 use Rattle.std.specs.List.{AllByRecursion, find, list_any, position_or_len}
 use Rattle.std.proofs.Math.Bool.{and_assoc}
 use Rattle.std.proofs.lemmas.Bool.{lt-ltb, ltb-true, or_parts, or_from}
@@ -21,6 +21,10 @@ places_from-below test n i (x ∷ xs) e = go (test x) (omega arith) (places_from
     go true lt rest = (lt, rest)
     go false lt rest = rest
 
+-- whether the edge of a number is in a layer
+abbrev lies_in : List EdgeParts → ℕ → ℕ → Bool
+lies_in edges layer e = layer == (parts_at edges e).layer
+
 module _ (whole : List EdgeParts) (layer : ℕ) (test : EdgeParts → Bool) where
   abbrev both : EdgeParts → Bool
   both e = test e && (layer == e.layer)
@@ -35,10 +39,10 @@ module _ (whole : List EdgeParts) (layer : ℕ) (test : EdgeParts → Bool) wher
 
   -- the first place that is in the layer, among the places of the items that pass
   first_from : (i : ℕ) (xs : List EdgeParts) → ((k : ℕ) → k < length xs → parts_at whole (i + k) ≡ parts_at xs k)
-      → find (is_in whole layer) (places_from i test xs) ≡ cond (nat_lt (position_or_len both xs) (length xs)) (Some (i + position_or_len both xs)) None
+      → find (lies_in whole layer) (places_from i test xs) ≡ cond (nat_lt (position_or_len both xs) (length xs)) (Some (i + position_or_len both xs)) None
   first_from i [] same = refl
   first_from i (x ∷ xs) same =
-      let later : find (is_in whole layer) (places_from (suc i) test xs) ≡ cond (nat_lt (1 + position_or_len both xs) (length (x ∷ xs))) (Some (i + (1 + position_or_len both xs))) None =
+      let later : find (lies_in whole layer) (places_from (suc i) test xs) ≡ cond (nat_lt (1 + position_or_len both xs) (length (x ∷ xs))) (Some (i + (1 + position_or_len both xs))) None =
       first_from (suc i) xs (λ k lt. subst (λ n. parts_at whole n ≡ parts_at xs k) (omega arith) (same (suc k) (omega arith)))
       ∙ shifted i (position_or_len both xs) (length xs) (length (x ∷ xs)) (omega arith) in
       let here : (layer == (parts_at whole i).layer) ≡ (layer == x.layer) =
@@ -46,22 +50,23 @@ module _ (whole : List EdgeParts) (layer : ℕ) (test : EdgeParts → Bool) wher
       go (test x) (layer == x.layer) here later
     where
       go : (t l : Bool) → (layer == (parts_at whole i).layer) ≡ l
-          → find (is_in whole layer) (places_from (suc i) test xs) ≡ cond (nat_lt (1 + position_or_len both xs) (length (x ∷ xs))) (Some (i + (1 + position_or_len both xs))) None
-          → find (is_in whole layer) (cond t (i ∷ places_from (suc i) test xs) (places_from (suc i) test xs))
+          → find (lies_in whole layer) (places_from (suc i) test xs) ≡ cond (nat_lt (1 + position_or_len both xs) (length (x ∷ xs))) (Some (i + (1 + position_or_len both xs))) None
+          → find (lies_in whole layer) (cond t (i ∷ places_from (suc i) test xs) (places_from (suc i) test xs))
           ≡ cond (nat_lt (cond (not (t && l)) (1 + position_or_len both xs) 0) (length (x ∷ xs))) (Some (i + cond (not (t && l)) (1 + position_or_len both xs) 0)) None
       go false l here later = later
-      go true false here later = ap (λ t. cond t (Some i) (find (is_in whole layer) (places_from (suc i) test xs))) here ∙ later
+      go true false here later = ap (λ t. cond t (Some i) (find (lies_in whole layer) (places_from (suc i) test xs))) here ∙ later
       go true true here later =
           let number : i ≡ i + 0 = omega arith in
-          ap (λ t. cond t (Some i) (find (is_in whole layer) (places_from (suc i) test xs))) here
+          ap (λ t. cond t (Some i) (find (lies_in whole layer) (places_from (suc i) test xs))) here
           ∙ (ap Some number
           ∙ sym (ap (λ t. cond t (Some (i + 0)) None) (lt-ltb 0 (length (x ∷ xs)) (omega arith))))
 
 -- the first of a pair's edges that is in a layer is the edge
-pub in_layer : (edges : List EdgeParts) (parts : EdgeParts) → find (is_in edges parts.layer) (edges_between edges (ends_of parts)) ≡ position (same_parts parts) edges
-in_layer edges parts =
-    first_from edges parts.layer (λ e. same_ends (ends_of parts) (ends_of e)) 0 edges (λ k lt. ap (parts_at edges) (omega arith))
-    ∙ (λ k. cond (nat_lt (first k) (length edges)) (Some (number k)) None)
+pub in_layer : (edges : List EdgeParts) (layers : List ℕ) (parts : EdgeParts) → ((e : ℕ) → slice_index_or layers e 0 ≡ (parts_at edges e).layer) → find (is_in layers parts.layer) (edges_between edges (ends_of parts)) ≡ position (same_parts parts) edges
+in_layer edges layers parts own =
+    (λ k. find (λ e. parts.layer == own e k) (edges_between edges (ends_of parts)))
+    ∙ (first_from edges parts.layer (λ e. same_ends (ends_of parts) (ends_of e)) 0 edges (λ k lt. ap (parts_at edges) (omega arith))
+    ∙ (λ k. cond (nat_lt (first k) (length edges)) (Some (number k)) None))
   where
     same : (e : EdgeParts) → (((nat_eq parts.src e.src && nat_eq parts.dst e.dst) && nat_eq parts.layer e.layer)) ≡ same_parts parts e
     same e = and_assoc (nat_eq parts.src e.src) (nat_eq parts.dst e.dst) (nat_eq parts.layer e.layer)

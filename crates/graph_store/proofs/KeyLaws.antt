@@ -122,7 +122,7 @@ take-own (x ∷ xs) ys = ap (λ zs. x ∷ zs) (take-own xs ys)
 pub with_keys-prefix : (keys : List (List ℕ × ValueType)) (props : List (List ℕ × Value)) → take (length keys) (with_keys keys props) ≡ keys
 with_keys-prefix keys props = let g = grows keys props in ap (take (length keys)) g.1 ∙ take-own keys g.0
 
-each_at : {X : Type 0} (P : X → Type 0) (xs : List X) (i : ℕ) (d : X) → AllByRecursion P xs → i < length xs → P (get_or xs i d)
+pub each_at : {X : Type 0} (P : X → Type 0) (xs : List X) (i : ℕ) (d : X) → AllByRecursion P xs → i < length xs → P (get_or xs i d)
 each_at P [] i d h lt = absurd (omega arith)
 each_at P (x ∷ xs) zero d h lt = h.0
 each_at P (x ∷ xs) (suc i) d h lt = each_at P xs i d h.1 (omega arith)

@@ -1,4 +1,5 @@
 mod PairLaws
+mod HeldLaws
 mod Results
 pub mod Listed
 pub mod LinkLaws

@@ -1,11 +1,11 @@
 -- Edges and pairs of numbered nodes, and the lists that they stand in.
-use Rattle.std.specs.Prelude.{ℕ, List, ◌≡◌, ◌<◌, ◌≤◌, ◌^◌, length}
-use Rattle.std.specs.List.{IsDistinct, list_any}
+use Rattle.std.specs.Prelude.{ℕ, List, [], ◌∷◌, ◌≡◌, ◌<◌, ◌≤◌, ◌^◌, length}
+use Rattle.std.specs.List.{AllByRecursion, IsDistinct, list_any}
 use Rattle.graph_store.specs.declared.pairs.Ends.{Ends}
 use Rattle.graph_store.specs.declared.edges.EdgeParts.{EdgeParts}
 use Rattle.graph_store.specs.Places.{places}
 use Rattle.graph_store.specs.Ends.{same_ends, ends_at}
-use Rattle.graph_store.specs.Parts.{same_parts, ends_of, parts_at}
+use Rattle.graph_store.specs.Parts.{same_parts, ends_of, parts_at, parts_in_layer}
 use Rattle.graph_store.specs.Paired.{Paired}
 use Rattle.link_chain.specs.Chains.{items_at, link_count}
 
@@ -31,3 +31,14 @@ pub record AreLinked (edges : List EdgeParts) (paired : Paired) (chains : List (
   pub known : (ends : Ends) → list_any (same_ends ends) paired.pairs ≡ list_any (λ (e : EdgeParts). same_ends ends (ends_of e)) edges
   pub between : (pair : ℕ) → pair < length paired.pairs → items_at chains pair ≡ edges_between edges (ends_at paired.pairs pair)
   pub within : (e : ℕ) → e < length edges → ((parts_at edges e).src < paired.nodes) × ((parts_at edges e).dst < paired.nodes)
+
+-- the edges, by the numbers of their pairs and their layers
+abbrev pub edges_from : List Ends → List ℕ → List ℕ → List EdgeParts
+edges_from pairs [] layers = []
+edges_from pairs (p ∷ ps) [] = []
+edges_from pairs (p ∷ ps) (l ∷ ls) = parts_in_layer (ends_at pairs p) l ∷ edges_from pairs ps ls
+
+-- each edge has a pair and a layer
+pub record AreHeld (pairs : List Ends) (pair_of layer_of : List ℕ) : Type 0 where
+  pub lengths : length layer_of ≡ length pair_of
+  pub within : AllByRecursion (λ (p : ℕ). p < length pairs) pair_of

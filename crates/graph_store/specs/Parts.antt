@@ -15,6 +15,10 @@ ends_of e = record { src = e.src; dst = e.dst }
 abbrev pub parts_at : List EdgeParts → ℕ → EdgeParts
 parts_at edges e = slice_index_or edges e (record { src = 0; dst = 0; layer = 0 })
 
--- whether the edge of a number is in a layer
-abbrev pub is_in : List EdgeParts → ℕ → ℕ → Bool
-is_in edges layer e = layer == (parts_at edges e).layer
+-- the edge of a pair in a layer
+abbrev pub parts_in_layer : Ends → ℕ → EdgeParts
+parts_in_layer ends layer = record { src = ends.src; dst = ends.dst; layer = layer }
+
+-- whether the edge of a number is in a layer, by the layers of edges
+abbrev pub is_in : List ℕ → ℕ → ℕ → Bool
+is_in layers layer e = layer == slice_index_or layers e 0

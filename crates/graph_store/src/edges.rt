@@ -53,28 +53,32 @@ impl EdgeParts {
 /// Distinct edges between numbered nodes, and their pairs. An edge stands in the chain of its pair,
 /// so a walk over the edges of a pair takes no memory, and an edge is found along the chain of its
 /// pair, which has one for each layer at the most.
+///
+/// An edge lies there as the number of its pair and its layer, in 5 bytes beside a link of 8, since its
+/// ends are those of the pair.
 #[derive(Drop)]
 pub struct EdgeTable {
-    parts: Vec<EdgeParts>,
+    pair_of: Vec<u32>,
+    layer_of: Vec<u8>,
     pairs: PairTable,
     of_pair: Chains,
 }
 
 impl Model for EdgeTable {
     ghost use Rattle.std.specs.Prelude.{min, ◌-◌, vec_len, vec_capacity};
-    ghost use Rattle.graph_store.specs.Linked.{Linked, AreLinked};
+    ghost use Rattle.graph_store.specs.Linked.{Linked, AreLinked, edges_from, AreHeld};
 
     ghost Value = { Linked };
 
     ghost view = { λ t. record {
       nodes = t.pairs.nodes;
-      edges = t.parts.items;
+      edges = edges_from t.pairs.pairs t.pair_of.items t.layer_of.items;
       pairs = t.pairs.pairs;
       spare_nodes = t.pairs.spare_nodes;
-      spare_edges = min (min (vec_capacity t.parts - vec_len t.parts) t.pairs.spare_pairs) (min t.of_pair.spare_heads t.of_pair.spare_links);
+      spare_edges = min (min (min (vec_capacity t.pair_of - vec_len t.pair_of) (vec_capacity t.layer_of - vec_len t.layer_of)) t.pairs.spare_pairs) (min t.of_pair.spare_heads t.of_pair.spare_links);
     } };
 
-    ghost invariant = { λ t. AreLinked t.parts.items t.pairs t.of_pair.lists };
+    ghost invariant = { λ t. AreHeld t.pairs.pairs t.pair_of.items t.layer_of.items × AreLinked (edges_from t.pairs.pairs t.pair_of.items t.layer_of.items) t.pairs t.of_pair.lists };
 }
 
 /// The number of a pair, which is new or known.
@@ -105,12 +109,12 @@ fn number_of_pair(pairs: &mut PairTable, of_pair: &mut Chains, ends: Ends) -> u3
 }
 
 /// The first edge of a walk that is in a layer.
-fn first_in_layer(parts: &[EdgeParts], mut edges: LinkWalk<'_>, layer: u8) -> Option<u32>
-    requires { AllByRecursion (λ e. e < length parts.now) edges }
-    ensures { result ≡ find (is_in parts.now layer) edges.entry }
+fn first_in_layer(layers: &[u8], mut edges: LinkWalk<'_>, layer: u8) -> Option<u32>
+    requires { AllByRecursion (λ e. e < length layers.now) edges }
+    ensures { result ≡ find (is_in layers.now layer) edges.entry }
 {
     while let Some(edge) = edges.step() {
-        if parts[edge as usize].layer == layer {
+        if layers[edge as usize] == layer {
             return Some(edge);
         }
     }
@@ -128,7 +132,8 @@ impl EdgeTable {
         ensures pairs { result.pairs ≡ [] }
     {
         EdgeTable {
-            parts: Vec::new(alloc),
+            pair_of: Vec::new(alloc),
+            layer_of: Vec::new(alloc),
             pairs: PairTable::new(alloc),
             of_pair: Chains::new(alloc),
         }
@@ -141,7 +146,7 @@ impl EdgeTable {
         ensures within { (e : ℕ) → e < length self.now.edges → ((parts_at self.now.edges e).src < self.now.nodes) × ((parts_at self.now.edges e).dst < self.now.nodes) }
         ensures known { (ends : Ends) → list_any (same_ends ends) self.now.pairs ≡ list_any (λ (e : EdgeParts). same_ends ends (ends_of e)) self.now.edges }
     {
-        self.parts.len() as u32
+        self.pair_of.len() as u32
     }
 
     /// How many pairs there are.
@@ -158,7 +163,7 @@ impl EdgeTable {
         ensures known { is_some result ≡ list_any (same_parts parts) self.now.edges }
     {
         let pair = self.pairs.find(parts.ends())?;
-        first_in_layer(self.parts.as_slice(), self.edges_of(pair), parts.layer)
+        first_in_layer(self.layer_of.as_slice(), self.edges_of(pair), parts.layer)
     }
 
     /// The number of a pair.
@@ -174,7 +179,12 @@ impl EdgeTable {
         requires { edge < length self.now.edges }
         ensures { slice_get self.now.edges edge ≡ Some result }
     {
-        self.parts[edge as usize]
+        let ends = self.pairs.ends_of(self.pair_of[edge as usize]);
+        EdgeParts {
+            src: ends.src,
+            dst: ends.dst,
+            layer: self.layer_of[edge as usize],
+        }
     }
 
     /// The ends of a pair.
@@ -193,7 +203,8 @@ impl EdgeTable {
         ensures room_for_nodes { OnOk result (nodes ≤ self.new.spare_nodes) }
         ensures room_for_edges { OnOk result (edges ≤ self.new.spare_edges) }
     {
-        self.parts.reserve(edges as usize)?;
+        self.pair_of.reserve(edges as usize)?;
+        self.layer_of.reserve(edges as usize)?;
         self.pairs.reserve(nodes, edges)?;
         self.of_pair.reserve(edges, edges)
     }
@@ -224,9 +235,10 @@ impl EdgeTable {
         ensures pairs { self.new.pairs ≡ insert_key same_ends self.old.pairs (ends_of parts) }
         ensures spare_nodes { self.old.spare_nodes ≤ self.new.spare_nodes }
     {
-        let edge = self.parts.len() as u32;
+        let edge = self.pair_of.len() as u32;
         let pair = number_of_pair(&mut self.pairs, &mut self.of_pair, parts.ends());
-        self.parts.push_reserved(parts);
+        self.pair_of.push_reserved(pair);
+        self.layer_of.push_reserved(parts.layer);
         let _ = self.of_pair.append(pair, edge);
         edge
     }

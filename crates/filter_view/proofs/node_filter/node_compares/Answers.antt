@@ -18,5 +18,5 @@ returns-clause-holds g c =
     sym (node_compared contents (g.V.View.world c.args.view.now) c.args.n.0 us c.node_span-span.result c.node_keys.result c.args.key c.args.cmp c.args.value.now c.key_compares.result
     (node_tells c.store-store.result.now contents c.args.n.0 us c.store-store.ensures c.node_history-history.ensures.told c.node_history-history.ensures.fits) c.node_span-span.ensures.shows
     (subst (λ (s : Contents). AreNamed (key_name s.node_keys) (length s.node_keys) us) c.store-store.ensures c.node_history-history.ensures.keys)
-    (sym (c.node_keys.ensures ∙ ap (λ (s : Contents). length s.node_keys) c.store-store.ensures))
+    (sym (c.node_keys.ensures.len ∙ ap (λ (s : Contents). length s.node_keys) c.store-store.ensures))
     c.key_compares.ensures)

@@ -22,7 +22,7 @@ kept g c =
     edge_compared contents (g.V.View.world c.args.self.now.inner) c.args.e.0 us c.edge_span-span.result c.edge_keys.result c.args.self.now.key c.args.self.now.cmp c.args.self.now.value.now c.key_compares.result
     (edge_tells c.store-store.result.now (g.V.View.contents c.args.self.now.inner) c.args.e.0 c.edge_history-history.result.now.updates c.store-store.ensures c.edge_history-history.ensures.told c.edge_history-history.ensures.fits) c.edge_span-span.ensures.shows
     (subst (λ (s : Contents). AreNamed (key_name s.edge_keys) (length s.edge_keys) us) c.store-store.ensures c.edge_history-history.ensures.keys)
-    (sym (c.edge_keys.ensures ∙ ap (λ (s : Contents). length s.edge_keys) c.store-store.ensures))
+    (sym (c.edge_keys.ensures.len ∙ ap (λ (s : Contents). length s.edge_keys) c.store-store.ensures))
     c.key_compares.ensures
 
 pub returns-then-key_compares-clause-shows : goal.returns-then-key_compares-clause-shows

@@ -22,7 +22,7 @@ kept g c =
     node_compared contents (g.V.View.world c.args.self.now.inner) c.args.n.0 us c.node_span-span.result c.node_keys.result c.args.self.now.key c.args.self.now.cmp c.args.self.now.value.now c.key_compares.result
     (node_tells c.store-store.result.now (g.V.View.contents c.args.self.now.inner) c.args.n.0 c.node_history-history.result.now.updates c.store-store.ensures c.node_history-history.ensures.told c.node_history-history.ensures.fits) c.node_span-span.ensures.shows
     (subst (λ (s : Contents). AreNamed (key_name s.node_keys) (length s.node_keys) us) c.store-store.ensures c.node_history-history.ensures.keys)
-    (sym (c.node_keys.ensures ∙ ap (λ (s : Contents). length s.node_keys) c.store-store.ensures))
+    (sym (c.node_keys.ensures.len ∙ ap (λ (s : Contents). length s.node_keys) c.store-store.ensures))
     c.key_compares.ensures
 
 pub returns-then-key_compares-clause-shows : goal.returns-then-key_compares-clause-shows
