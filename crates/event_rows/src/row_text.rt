@@ -3,12 +3,13 @@ ghost use Rattle.std.specs.Prelude.{◌≡◌, ◌∷◌, [], ◌++◌, IfOk, On
 ghost use Rattle.std.specs.Fmt.{signed_decimal};
 ghost use Rattle.csv.specs.Records.{fields_of, partial_of};
 ghost use Rattle.csv.specs.Writing.{default_writer, row_text};
-ghost use Rattle.graph_model.specs.Record.{edge_fields, event_fields, order_text, prop_text, span_fields, type_fields};
+ghost use Rattle.graph_model.specs.declared.events.What.TheVariants.{Node as Update, Add, Delete};
+ghost use Rattle.graph_model.specs.Record.{event_fields, order_text, prop_text, span_fields, type_fields, what_fields};
 ghost use Rattle.graph_model.specs.RowText.{record_text};
 
 use crate::row_writer::RowWriter;
 use csv::ByteRecord;
-use graph_model::{Bounds, EdgeName, Event, Memory, Name, Props, Value, What};
+use graph_model::{Bounds, Event, Memory, Name, Props, Value, What};
 use itoa::Buffer;
 use property_values::print_value;
 use std::alloc::Global;
@@ -45,43 +46,114 @@ fn set_property_text(text: &mut Vec<u8>, key: &Name, value: &Value) -> Result<()
     print_value(value, text)
 }
 
+/// Adds a property to a row. `text` is room for its text, and what it has is lost.
+///
+/// Want of memory leaves anything in `row`.
+pub fn add_property(
+    row: &mut ByteRecord,
+    text: &mut Vec<u8>,
+    key: &Name,
+    value: &Value,
+) -> Result<(), Memory>
+    requires { partial_of row.old ≡ [] }
+    ensures fields { OnOk result (fields_of row.new ≡ fields_of row.old ++ prop_text (key.now, value.now) ∷ []) }
+    ensures whole { OnOk result (partial_of row.new ≡ []) }
+{
+    set_property_text(text, key, value)?;
+    add_field(row, text.as_slice())
+}
+
 // Adds properties to a row, each written into `text` first.
 fn add_props(row: &mut ByteRecord, text: &mut Vec<u8>, props: &Props) -> Result<(), Memory>
     requires { partial_of row.old ≡ [] }
     ensures { OnOk result (fields_of row.new ≡ fields_of row.old ++ map prop_text props.now) }
 {
     for i in 0..props.len() {
-        set_property_text(text, props.key_at(i), props.value_at(i))?;
-        add_field(row, text.as_slice())?;
+        add_property(row, text, props.key_at(i), props.value_at(i))?;
     }
     Ok(())
 }
 
-// Adds a kind and a time, written into `text` first.
-fn add_moment(
+// Makes `row` a kind and a time, of which the time is written into `text` first.
+fn set_moment(
     row: &mut ByteRecord,
     text: &mut Vec<u8>,
     kind: &[u8],
-    event: &Event,
+    time: i64,
+    order: u32,
 ) -> Result<(), Memory>
-    requires { partial_of row.old ≡ [] }
-    ensures fields { OnOk result (fields_of row.new ≡ fields_of row.old ++ kind.now ∷ (signed_decimal event.now.time ++ order_text event.now.order) ∷ []) }
+    ensures fields { OnOk result (fields_of row.new ≡ kind.now ∷ (signed_decimal time ++ order_text order) ∷ []) }
     ensures whole { OnOk result (partial_of row.new ≡ []) }
 {
+    row.clear();
     add_field(row, kind)?;
-    set_moment_text(text, event.time, event.order)?;
+    set_moment_text(text, time, order)?;
     add_field(row, text.as_slice())
 }
 
 // Adds an edge.
-fn add_edge(row: &mut ByteRecord, edge: &EdgeName) -> Result<(), Memory>
+fn add_edge(row: &mut ByteRecord, src: &Name, dst: &Name, layer: &Name) -> Result<(), Memory>
     requires { partial_of row.old ≡ [] }
-    ensures fields { OnOk result (fields_of row.new ≡ fields_of row.old ++ edge_fields edge.now) }
+    ensures fields { OnOk result (fields_of row.new ≡ fields_of row.old ++ src.now ∷ dst.now ∷ layer.now ∷ []) }
     ensures whole { OnOk result (partial_of row.new ≡ []) }
 {
-    add_field(row, edge.src.as_str().as_bytes())?;
-    add_field(row, edge.dst.as_str().as_bytes())?;
-    add_field(row, edge.layer.as_str().as_bytes())
+    add_field(row, src.as_str().as_bytes())?;
+    add_field(row, dst.as_str().as_bytes())?;
+    add_field(row, layer.as_str().as_bytes())
+}
+
+/// Makes `row` the row of an update of a node, to which properties can be added. `text` is room for
+/// the texts of fields, and what it has is lost.
+///
+/// Want of memory leaves anything in `row`.
+pub fn set_node(
+    row: &mut ByteRecord,
+    text: &mut Vec<u8>,
+    time: i64,
+    order: u32,
+    name: &Name,
+) -> Result<(), Memory>
+    ensures fields { OnOk result (fields_of row.new ≡ what_fields (signed_decimal time ++ order_text order) (Update name.now [])) }
+    ensures whole { OnOk result (partial_of row.new ≡ []) }
+{
+    set_moment(row, text, b"node", time, order)?;
+    add_field(row, name.as_str().as_bytes())
+}
+
+/// Makes `row` the row of an addition of an edge, to which properties can be added. `text` is room
+/// for the texts of fields, and what it has is lost.
+///
+/// Want of memory leaves anything in `row`.
+pub fn set_addition(
+    row: &mut ByteRecord,
+    text: &mut Vec<u8>,
+    time: i64,
+    order: u32,
+    edge: (&Name, &Name, &Name),
+) -> Result<(), Memory>
+    ensures fields { OnOk result (fields_of row.new ≡ what_fields (signed_decimal time ++ order_text order) (Add (record { src = edge.entry.0.now; dst = edge.entry.1.now; layer = edge.entry.2.now }) [])) }
+    ensures whole { OnOk result (partial_of row.new ≡ []) }
+{
+    set_moment(row, text, b"edge", time, order)?;
+    add_edge(row, edge.0, edge.1, edge.2)
+}
+
+/// Makes `row` the row of a deletion of an edge. `text` is room for the texts of fields, and what it
+/// has is lost.
+///
+/// Want of memory leaves anything in `row`.
+pub fn set_deletion(
+    row: &mut ByteRecord,
+    text: &mut Vec<u8>,
+    time: i64,
+    order: u32,
+    edge: (&Name, &Name, &Name),
+) -> Result<(), Memory>
+    ensures fields { OnOk result (fields_of row.new ≡ what_fields (signed_decimal time ++ order_text order) (Delete (record { src = edge.entry.0.now; dst = edge.entry.1.now; layer = edge.entry.2.now }))) }
+    ensures whole { OnOk result (partial_of row.new ≡ []) }
+{
+    set_moment(row, text, b"delete", time, order)?;
+    add_edge(row, edge.0, edge.1, edge.2)
 }
 
 /// Makes `row` the row of an event. `text` is room for the texts of its fields, and what it has is lost.
@@ -90,21 +162,19 @@ fn add_edge(row: &mut ByteRecord, edge: &EdgeName) -> Result<(), Memory>
 pub fn set_event(row: &mut ByteRecord, text: &mut Vec<u8>, event: &Event) -> Result<(), Memory>
     ensures { OnOk result (fields_of row.new ≡ event_fields event.now) }
 {
-    row.clear();
     match &event.what {
         What::Node(name, props) => {
-            add_moment(row, text, b"node", event)?;
-            add_field(row, name.as_str().as_bytes())?;
+            set_node(row, text, event.time, event.order, name)?;
             add_props(row, text, props)
         }
         What::Add(edge, props) => {
-            add_moment(row, text, b"edge", event)?;
-            add_edge(row, edge)?;
+            let parts = (&edge.src, &edge.dst, &edge.layer);
+            set_addition(row, text, event.time, event.order, parts)?;
             add_props(row, text, props)
         }
         What::Delete(edge) => {
-            add_moment(row, text, b"delete", event)?;
-            add_edge(row, edge)
+            let parts = (&edge.src, &edge.dst, &edge.layer);
+            set_deletion(row, text, event.time, event.order, parts)
         }
     }
 }
