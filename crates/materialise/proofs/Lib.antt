@@ -5,5 +5,6 @@ pub mod Placing
 pub mod SpanPlaces
 pub mod NamedTypes
 pub mod LiveProps
+pub mod BorrowedProps
 pub mod PlacedEvents
 pub mod Unrefused

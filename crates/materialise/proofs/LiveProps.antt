@@ -19,6 +19,7 @@ use Rattle.graph_model.specs.Props.{KeysRise, has_key, prop_value, put_prop}
 use Rattle.graph_model.specs.Compare.{live, last_value, value_of}
 use Rattle.graph_model.specs.Entity.{props_of, what_props}
 use Rattle.graph_model.specs.Window.{last_props}
+use Rattle.graph_model.proofs.PropItems.{KeysRise-put}
 use Rattle.world_laws.proofs.Filters.{each_weaker}
 use Rattle.world_laws.proofs.Order.{name_exact, same_name-refl, same_name-exact}
 use Rattle.world_laws.proofs.Carried.{each_live}
@@ -100,7 +101,7 @@ pub record Gathered (names : ℕ → List ℕ) (es : List Event) (n : ℕ) (prop
 pub gathered_none : (names : ℕ → List ℕ) (es : List Event) → Gathered names es 0 []
 gathered_none names es = record { values = λ k lt. absurd (omega arith); others = λ name h. refl }
 
-other_name : (a b : List ℕ) → (a ≡ b → ⊥) → same_name a b ≡ false
+pub other_name : (a b : List ℕ) → (a ≡ b → ⊥) → same_name a b ≡ false
 other_name a b h = elim (cases_Bool (same_name a b)) [
   | inl e ↦ absurd (h (same_name-exact a b e))
   | inr e ↦ e
@@ -138,6 +139,15 @@ gathered_more names es n total old new name (Some v) apart lt is o_is h more =
       where
         at_end : (k n : ℕ) → k < n + 1 → (k ≡ n) ⊎ (k < n)
         at_end k n m = grind arith
+
+-- they rise
+pub gathered_rise : (names : ℕ → List ℕ) (es : List Event) (n total : ℕ) (old new : List (List ℕ × Value)) (name : List ℕ) (o : Option Value) → ((i j : ℕ) → i < total → j < total → names i ≡ names j → i ≡ j) → n < total
+    → name ≡ names n → Gathered names es n old → KeysRise old → new ≡ with_value name o old → KeysRise new
+gathered_rise names es n total old new name None apart lt is h rise more = subst KeysRise (sym more) rise
+gathered_rise names es n total old new name (Some v) apart lt is h rise more =
+    let absent : prop_value (names n) old ≡ None = h.others (names n) (λ k below e. let same = apart n k lt (omega arith) e in omega arith) in
+    let free : has_key (names n) old ≡ false = elim (cases_Bool (has_key (names n) old)) [ inl e ↦ absurd (prop_value-some (names n) old e absent) | inr e ↦ e ] in
+    subst KeysRise (sym (more ∙ ap (λ z. put_prop (z, v) old) is)) (KeysRise-put (names n, v) old free rise)
 
 -- ---- and of all keys
 

@@ -3,3 +3,4 @@ pub mod Listing
 pub mod Types
 pub mod Keyed
 pub mod Storable
+pub mod Borrowed

@@ -163,19 +163,6 @@ pub(crate) fn shown_by_number<'s, V: View, L: Ledger>(
     Ok(shown)
 }
 
-/// The nodes and edges that have events in a view, in order.
-fn shown_in_order<'s, V: View, L: Ledger>(
-    alloc: Global,
-    view: &'s V,
-    steps: &mut Steps<L>,
-) -> Result<Vec<Shown<'s>>, Memory>
-    ensures { IfOk result (λ shown. AreShown (V.contents view.now) (V.world view.now) shown.items) }
-{
-    let mut shown = shown_by_number(alloc, view, steps)?;
-    shown.sort_unstable_by(|a, b| a.subject.compare(&b.subject));
-    Ok(shown)
-}
-
 /// Adds the place of what a span carries to `lo`, and says how many places that is.
 fn push_carried(
     places: &mut Vec<EventPlace>,
@@ -274,6 +261,24 @@ fn places_by_entity<V: View, L: Ledger>(
     Ok(places)
 }
 
+/// Nodes and edges that have events in a view, put in order, and the places of all events in
+/// canonical order.
+pub(crate) fn places_in_order<'s, V: View, L: Ledger>(
+    alloc: Global,
+    view: &'s V,
+    mut shown: Vec<Shown<'s>>,
+    steps: &mut Steps<L>,
+) -> Result<Listed<'s>, Memory>
+    requires entities { entities_of shown.items ≡ filter (appears (V.world view.now)) (all_entities (V.contents view.now)) }
+    requires parts { All (IsPart (V.contents view.now) (V.world view.now)) shown.items }
+    ensures { IfOk result (λ listed. AreListed (V.contents view.now) (V.world view.now) listed.shown.items listed.events.items) }
+{
+    shown.sort_unstable_by(|a, b| a.subject.compare(&b.subject));
+    let mut events = places_by_entity(alloc, view, shown.as_slice(), steps)?;
+    events.sort_unstable_by(|a, b| a.compare(b));
+    Ok(Listed { shown, events })
+}
+
 /// The nodes and edges that have events in a view, and the places of all events in canonical order.
 /// Each span is asked once. An event takes 16 bytes while it is listed.
 pub fn list_places<'s, V: View, L: Ledger>(
@@ -283,8 +288,6 @@ pub fn list_places<'s, V: View, L: Ledger>(
 ) -> Result<Listed<'s>, Memory>
     ensures { IfOk result (λ listed. AreListed (V.contents view.now) (V.world view.now) listed.shown.items listed.events.items) }
 {
-    let shown = shown_in_order(alloc, view, steps)?;
-    let mut events = places_by_entity(alloc, view, shown.as_slice(), steps)?;
-    events.sort_unstable_by(|a, b| a.compare(b));
-    Ok(Listed { shown, events })
+    let shown = shown_by_number(alloc, view, steps)?;
+    places_in_order(alloc, view, shown, steps)
 }

@@ -18,9 +18,9 @@ use view_trait::View;
 
 /// A node and its type, by the names that the store has for them.
 #[derive(Clone, Copy)]
-struct TypedNode<'s> {
-    node: &'s Name,
-    kind: &'s Name,
+pub struct TypedNode<'s> {
+    pub node: &'s Name,
+    pub kind: &'s Name,
 }
 
 /// Sets the flag of a node.
@@ -113,6 +113,25 @@ fn copied(alloc: Global, typed: &[TypedNode<'_>]) -> Result<TypeList, Memory>
     Ok(types)
 }
 
+/// The nodes that the events of a view name and that have types, rising by the node's name. The nodes
+/// and edges are those that have events in the view, by their numbers.
+pub(crate) fn typed_in_order<'s, V: View>(
+    alloc: Global,
+    view: &'s V,
+    shown: &[Shown<'_>],
+) -> Result<Vec<TypedNode<'s>>, Memory>
+    requires entities { entities_of shown.now ≡ filter (appears (V.world view.now)) (all_entities (V.contents view.now)) }
+    requires parts { All (IsPart (V.contents view.now) (V.world view.now)) shown.now }
+    ensures { IfOk result (λ typed. types_listed typed.items ≡ (V.world view.now).types) }
+{
+    let store = view.store();
+    let _lawful = store.events();
+    let flags = named_nodes(alloc, view, shown)?;
+    let mut typed = typed_nodes(alloc, view, shown, flags.as_slice())?;
+    typed.sort_unstable_by(|a, b| a.node.cmp(b.node));
+    Ok(typed)
+}
+
 /// The types of the nodes that the events of a view name, rising by the node's name. The span of each
 /// node and edge of the store is asked once.
 pub fn list_types<V: View, L: Ledger>(
@@ -122,11 +141,7 @@ pub fn list_types<V: View, L: Ledger>(
 ) -> Result<TypeList, Memory>
     ensures { IfOk result (λ types. types ≡ (V.world view.now).types) }
 {
-    let store = view.store();
-    let _lawful = store.events();
     let shown = shown_by_number(alloc, view, steps)?;
-    let flags = named_nodes(alloc, view, shown.as_slice())?;
-    let mut typed = typed_nodes(alloc, view, shown.as_slice(), flags.as_slice())?;
-    typed.sort_unstable_by(|a, b| a.node.cmp(b.node));
+    let typed = typed_in_order(alloc, view, shown.as_slice())?;
     copied(alloc, typed.as_slice())
 }

@@ -1,9 +1,10 @@
 use Rattle.std.proofs.Common.{◌-◌, ◌<◌, length, arith}
 use Rattle.graph_store.specs.Contents.{key_names_for}
+use Rattle.materialise.specs.Borrowed.{props_borrowed}
 use Rattle.materialise.specs.Listing.{entity_named}
 use Rattle.materialise.specs.Keyed.{key_count}
 use Rattle.materialise.proofs.LiveProps.{named_more, key_below}
-use Rattle.materialise.proofs.world_list.props_of.Goals as goal
+use Rattle.materialise.proofs.borrowed.set_values.Goals as goal
 
 pub key_of-key-requires : goal.key_of-key-requires
 key_of-key-requires c =
@@ -19,5 +20,5 @@ loop-i-preserved c =
     let names = key_names_for c.args.store.now (entity_named c.args.subject) in
     record {
       within = omega (arith, some, within);
-      props = named_more names c.args.values.now c.loop-i.i c.loop-i.props c.put_copy.new.props c.key_at.result c.value_at.result.now c.key_of-key.result.now some within c.key_at.ensures c.value_at.ensures c.key_of-key.ensures c.loop-i.invariant.props c.in_ok-put_copy.ensures;
+      props = named_more names c.args.values.now c.loop-i.i (props_borrowed c.loop-i.props.items) (props_borrowed c.put_value.new.props.items) c.key_at.result c.value_at.result.now c.key_of-key.result.now some within c.key_at.ensures c.value_at.ensures c.key_of-key.ensures c.loop-i.invariant.props c.in_ok-put_value.ensures;
     }

@@ -1,0 +1,67 @@
+-- Properties that are borrowed, as pairs.
+use Rattle.std.proofs.Common.{◌≡◌, ℕ, zero, suc, ◌+◌, ◌-◌, ◌<◌, ◌≤◌, Bool, true, false, not, ◌||◌, List, [], ◌∷◌, length, drop, get_or, cond, refl, sym, ◌∙◌, ap, subst, arith}
+use Rattle.std.specs.List.{position_or_len, insert, AllByRecursion, All}
+use Rattle.std.specs.declared.cmp.Ordering.TheVariants.{Less}
+use Rattle.std.specs.Ordering.{is_lt}
+use Rattle.std.proofs.Math.Numerals.{one-add}
+use Rattle.std.proofs.lemmas.Bool.{cond-true}
+use Rattle.std.proofs.lemmas.List.{drop_more}
+use Rattle.std.proofs.lemmas.List.Elements.{recursion_from_All}
+use Rattle.graph_model.specs.declared.properties.Value.{Value}
+use Rattle.graph_model.specs.Names.{name_cmp, same_name}
+use Rattle.graph_model.specs.Props.{has_key, put_prop, KeysRise}
+use Rattle.graph_model.proofs.PropItems.{KeysRise-put}
+use Rattle.world_laws.proofs.Distinct.{any-put_prop}
+use Rattle.time_history.specs.KeyValues.{KeysRise as NumbersRise}
+use Rattle.time_history.specs.Told.{named}
+use Rattle.materialise.specs.declared.borrowed.Property.{Property}
+use Rattle.materialise.specs.Borrowed.{props_borrowed}
+use Rattle.materialise.proofs.LiveProps.{other_name}
+
+put_cases : (x y : Property) (ys : List Property) (n : ℕ) → put_prop (x.key.now, x.value.now) (props_borrowed ys) ≡ props_borrowed (insert ys n x) → (t : Bool)
+    → cond t ((x.key.now, x.value.now) ∷ (y.key.now, y.value.now) ∷ props_borrowed ys) ((y.key.now, y.value.now) ∷ put_prop (x.key.now, x.value.now) (props_borrowed ys)) ≡ props_borrowed (insert (y ∷ ys) (cond (not t) (1 + n) 0) x)
+put_cases x y ys n h true = refl
+put_cases x y ys n h false = rw one-add (ap (λ ps. (y.key.now, y.value.now) ∷ ps) h)
+
+-- a property, put at the first place whose key is greater
+pub put_borrowed : (x : Property) (items : List Property) → put_prop (x.key.now, x.value.now) (props_borrowed items) ≡ props_borrowed (insert items (position_or_len (λ p. is_lt (name_cmp x.key.now p.key.now)) items) x)
+put_borrowed x [] = refl
+put_borrowed x (y ∷ ys) = put_cases x y ys (position_or_len (λ p. is_lt (name_cmp x.key.now p.key.now)) ys) (put_borrowed x ys) (is_lt (name_cmp x.key.now y.key.now))
+
+-- ---- the names of rising numbers
+
+-- the name of a number is not among those of greater ones
+greater_lack : (names : ℕ → List ℕ) (n key : ℕ) → ((i j : ℕ) → i < n → j < n → names i ≡ names j → i ≡ j) → key < n → (vs : List (ℕ × Value)) → AllByRecursion (λ (p : ℕ × Value). p.0 < n) vs
+    → AllByRecursion (λ (p : ℕ × Value). key < p.0) vs → has_key (names key) (named names vs) ≡ false
+greater_lack names n key apart lt [] h k = refl
+greater_lack names n key apart lt (p ∷ vs) h k =
+    let differ : names key ≡ names p.0 → ⊥ = λ e. let same = apart key p.0 lt h.0 e in let less = k.0 in absurd (omega (arith, same, less)) in
+    any-put_prop (λ (q : List ℕ × Value). same_name (names key) q.0) (names p.0, p.1) (named names vs)
+    ∙ ((λ i. other_name (names key) (names p.0) differ i || has_key (names key) (named names vs)) ∙ greater_lack names n key apart lt vs h.1 k.1)
+
+named_rises : (names : ℕ → List ℕ) (n : ℕ) → ((i j : ℕ) → i < n → j < n → names i ≡ names j → i ≡ j) → (vs : List (ℕ × Value)) → AllByRecursion (λ (p : ℕ × Value). p.0 < n) vs → NumbersRise vs → KeysRise (named names vs)
+named_rises names n apart [] h k = tt
+named_rises names n apart (p ∷ vs) h k = KeysRise-put (names p.0, p.1) (named names vs) (greater_lack names n p.0 apart h.0 vs h.1 k.0) (named_rises names n apart vs h.1 k.1)
+
+pub named_rise : (names : ℕ → List ℕ) (n : ℕ) → ((i j : ℕ) → i < n → j < n → names i ≡ names j → i ≡ j) → (vs : List (ℕ × Value)) → All (λ (p : ℕ × Value). p.0 < n) vs → NumbersRise vs → KeysRise (named names vs)
+named_rise names n apart vs h k = named_rises names n apart vs (recursion_from_All (λ (p : ℕ × Value). p.0 < n) vs h) k
+
+-- ---- properties that rise, put from the last to the first
+
+put_first : (p : List ℕ × Value) (ps : List (List ℕ × Value)) → AllByRecursion (λ (q : List ℕ × Value). name_cmp p.0 q.0 ≡ Less) ps → put_prop p ps ≡ p ∷ ps
+put_first p [] h = refl
+put_first p (q ∷ qs) h = cond-true (is_lt (name_cmp p.0 q.0)) (p ∷ q ∷ qs) (q ∷ put_prop p qs) (ap is_lt h.0)
+
+drop_rises : (ps : List (List ℕ × Value)) (j : ℕ) → KeysRise ps → KeysRise (drop j ps)
+drop_rises ps zero h = h
+drop_rises [] (suc j) h = tt
+drop_rises (p ∷ ps) (suc j) h = drop_rises ps j h.1
+
+pub copied_more : (ps : List (List ℕ × Value)) (j : ℕ) (p : List ℕ × Value) (old new : List (List ℕ × Value)) → KeysRise ps → 0 < j → j ≤ length ps → p ≡ get_or ps (j - 1) p
+    → old ≡ drop j ps → new ≡ put_prop p old → new ≡ drop (j - 1) ps
+copied_more ps j p old new rise some le is before put =
+    let lt : j - 1 < length ps = omega arith in
+    let next : j - 1 + 1 ≡ j = omega arith in
+    let whole : drop (j - 1) ps ≡ p ∷ drop j ps = drop_more ps (j - 1) p lt ∙ (λ i. sym is i ∷ drop (next i) ps) in
+    let up : KeysRise (p ∷ drop j ps) = subst KeysRise whole (drop_rises ps (j - 1) rise) in
+    put ∙ (ap (put_prop p) before ∙ (put_first p (drop j ps) up.0 ∙ sym whole))
