@@ -5,3 +5,4 @@ pub mod Happenings
 pub mod EdgeList
 pub mod Listing
 pub mod Plainly
+pub mod RecordRows

@@ -1,8 +1,8 @@
 -- The rows of questions that need no walk answer them.
-use Rattle.std.proofs.Common.{◌≡◌, ◌++◌, true, List, ℕ, subst, sym}
+use Rattle.std.proofs.Common.{◌≡◌, ◌++◌, true, List, ℕ, refl, subst, sym}
 use Rattle.std.specs.Prelude.{OnOk, Result}
 use Rattle.graph_model.specs.declared.queries.Ask.{Ask}
-use Rattle.graph_model.specs.declared.queries.Ask.TheVariants.{Nodes, Edges, Events, Degree, NodeHistory, EdgeHistory, NodeValue, EdgeValue, EdgeAlive}
+use Rattle.graph_model.specs.declared.queries.Ask.TheVariants.{Nodes, Edges, Events, Degree, NodeHistory, EdgeHistory, NodeValue, EdgeValue, EdgeAlive, Materialise}
 use Rattle.graph_model.specs.Answer.{IsAnswer}
 use Rattle.graph_model.specs.RowText.{rows_text}
 use Rattle.graph_model.specs.World.{World}
@@ -20,6 +20,7 @@ plain_answer w (EdgeHistory edge) h = answer_edge_history w edge
 plain_answer w (NodeValue node key) h = answer_node_value w node key
 plain_answer w (EdgeValue edge key) h = answer_edge_value w edge key
 plain_answer w (EdgeAlive edge m) h = answer_alive w edge m
+plain_answer w Materialise h = refl
 plain_answer w _ h = cc
 
 -- a question that is another has its part

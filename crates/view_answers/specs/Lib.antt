@@ -5,3 +5,4 @@ pub mod Costs
 pub mod Edges
 pub mod Extents
 pub mod Plain
+pub mod Records

@@ -3,8 +3,8 @@ use Rattle.std.specs.Prelude.{ℕ, Bool, true, false, ◌≡◌, codes, length, 
 use Rattle.graph_model.specs.declared.events.Entity.TheVariants.{Node, Edge}
 use Rattle.graph_model.specs.declared.events.Model.TheVariants.{Event as Instants}
 use Rattle.graph_model.specs.declared.queries.Ask.{Ask}
-use Rattle.graph_model.specs.declared.queries.Ask.TheVariants.{Nodes, Edges, Events, Degree, NodeHistory, EdgeHistory, NodeValue, EdgeValue, EdgeAlive}
-use Rattle.graph_model.specs.Answer.{Row, Named, Linked, Lives, degree_row, edge_kind, extent_row, history_rows, value_rows}
+use Rattle.graph_model.specs.declared.queries.Ask.TheVariants.{Nodes, Edges, Events, Degree, NodeHistory, EdgeHistory, NodeValue, EdgeValue, EdgeAlive, Materialise}
+use Rattle.graph_model.specs.Answer.{Row, Named, Linked, Lives, degree_row, edge_kind, extent_row, history_rows, value_rows, world_rows}
 use Rattle.graph_model.specs.Compare.{value_of}
 use Rattle.graph_model.specs.Presence.{alive_at, edges, nodes}
 use Rattle.graph_model.specs.Searches.{Searches, list_searches}
@@ -24,6 +24,7 @@ is_plain (EdgeHistory edge) = true
 is_plain (NodeValue node key) = true
 is_plain (EdgeValue edge key) = true
 is_plain (EdgeAlive edge m) = true
+is_plain Materialise = true
 is_plain _ = false
 
 -- the rows that answer such a question about a world
@@ -37,6 +38,7 @@ plain_rows w (EdgeHistory edge) = history_rows edge_kind 0 (events_of w (Edge ed
 plain_rows w (NodeValue node key) = value_rows (value_of key (events_of w (Node node)))
 plain_rows w (EdgeValue edge key) = value_rows (value_of key (events_of w (Edge edge)))
 plain_rows w (EdgeAlive edge m) = Lives (alive_at w edge m) ∷ []
+plain_rows w Materialise = world_rows w
 plain_rows w _ = []
 
 -- the steps of an answer are within its searches, where a question has such a number: one about one node or edge, and in the event model one about all of them

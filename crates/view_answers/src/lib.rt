@@ -7,6 +7,7 @@ mod laws;
 mod nodes;
 mod part;
 mod point;
+mod records;
 mod rows;
 mod values;
 

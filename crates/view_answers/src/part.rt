@@ -7,6 +7,7 @@ ghost use Rattle.view_answers.specs.Plain.{IsPaid, is_plain, plain_rows};
 use crate::edges::add_edges;
 use crate::histories::{add_edge_history, add_node_history};
 use crate::nodes::{add_events, add_node_degrees, add_nodes};
+use crate::records::add_world_records;
 use crate::values::{add_edge_alive, add_edge_value, add_node_value};
 use event_rows::RowWriter;
 use graph_model::{Ask, Memory};
@@ -40,6 +41,7 @@ pub fn add_part<V: View, L: Ledger>(
         Ask::NodeValue(node, key) => add_node_value(alloc, out, view, node, key, steps),
         Ask::EdgeValue(edge, key) => add_edge_value(alloc, out, view, edge, key, steps),
         Ask::EdgeAlive(edge, m) => add_edge_alive(out, view, edge, *m, steps),
+        Ask::Materialise => add_world_records(alloc, out, view, steps),
         _ => unreachable!(),
     }
 }

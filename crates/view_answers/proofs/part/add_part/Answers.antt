@@ -1,7 +1,7 @@
 use Rattle.std.proofs.Common.{◌≡◌, ◌++◌, ◌∷◌, [], subst, rules, to_z, of_z, w64}
 use Rattle.std.specs.Prelude.{OnOk}
 use Rattle.std.proofs.lemmas.Int.{to_z-of_z}
-use Rattle.graph_model.specs.declared.queries.Ask.TheVariants.{Nodes, Edges, Events, Degree, NodeHistory, EdgeHistory, NodeValue, EdgeValue, EdgeAlive}
+use Rattle.graph_model.specs.declared.queries.Ask.TheVariants.{Nodes, Edges, Events, Degree, NodeHistory, EdgeHistory, NodeValue, EdgeValue, EdgeAlive, Materialise}
 use Rattle.graph_model.specs.Answer.{Lives}
 use Rattle.graph_model.specs.Presence.{alive_at}
 use Rattle.graph_model.specs.RowText.{rows_text}
@@ -41,3 +41,6 @@ returns-in-EdgeAlive-clause-part g c =
     let same : to_z w64 (of_z w64 c.in-EdgeAlive.m) ≡ c.in-EdgeAlive.m = to_z-of_z w64 c.in-EdgeAlive.m (search rules) in
     part_asked c.add_edge_alive.result w c.args.ask.now (EdgeAlive c.in-EdgeAlive.edge c.in-EdgeAlive.m) old new c.in-EdgeAlive.is
     (subst (λ t. OnOk c.add_edge_alive.result (new ≡ old ++ rows_text (part_rows w (Lives (alive_at w c.in-EdgeAlive.edge t) ∷ [])))) same c.add_edge_alive.ensures.rows)
+
+pub returns-in-Materialise-clause-part : goal.returns-in-Materialise-clause-part
+returns-in-Materialise-clause-part g c = part_asked c.add_world_records.result (g.V.View.world c.args.view.now) c.args.ask.now Materialise c.args.out.now c.add_world_records.new.out c.in-Materialise.is c.add_world_records.ensures

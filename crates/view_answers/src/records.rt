@@ -1,0 +1,132 @@
+//! The records of the world of a view.
+ghost use Rattle.std.specs.Prelude.{◌≡◌, ◌∷◌, [], ◌++◌, length, map, OnOk};
+ghost use Rattle.std.specs.List.{All};
+ghost use Rattle.csv.specs.Records.{fields_of, partial_of};
+ghost use Rattle.csv.specs.Writing.{default_writer, row_text};
+ghost use Rattle.graph_model.specs.Answer.{Recorded, Spanned, Typed, row_fields, world_rows};
+ghost use Rattle.graph_model.specs.Record.{event_fields, prop_text};
+ghost use Rattle.graph_model.specs.RowText.{rows_text};
+ghost use Rattle.materialise.specs.Borrowed.{event_borrowed, props_borrowed};
+ghost use Rattle.materialise.specs.Listing.{IsPart, IsPlaced, event_placed};
+ghost use Rattle.materialise.specs.Types.{types_listed};
+ghost use Rattle.view_answers.specs.Parts.{part_rows};
+ghost use Rattle.view_answers.specs.Records.{type_row};
+
+use crate::rows::add_world;
+use csv::ByteRecord;
+use event_rows::{
+    RowWriter, add_property, set_addition, set_deletion, set_node, set_span, set_type,
+};
+use graph_model::{Bounds, Memory};
+use materialise::{
+    BorrowedEvent, EventPlace, Property, Shown, Subject, TypedNode, borrowed_event, list_whole,
+};
+use std::alloc::Global;
+use std::sync::ledger::Ledger;
+use time_column::Steps;
+use view_trait::View;
+
+/// Adds the record of bounds.
+fn add_bounds(out: &mut RowWriter, row: &mut ByteRecord, bounds: Bounds) -> Result<(), Memory>
+    ensures { OnOk result (out.new ≡ out.old ++ row_text default_writer (row_fields (Spanned bounds))) }
+{
+    set_span(row, bounds)?;
+    out.add(row)
+}
+
+/// Adds the records of types.
+fn add_types(
+    out: &mut RowWriter,
+    row: &mut ByteRecord,
+    types: &[TypedNode<'_>],
+) -> Result<(), Memory>
+    ensures { OnOk result (out.new ≡ out.old ++ rows_text (map row_fields (map type_row types.now))) }
+{
+    for typed in types {
+        set_type(row, typed.node, typed.kind)?;
+        out.add(row)?;
+    }
+    Ok(())
+}
+
+/// Adds properties to a row, each written into `text` first.
+fn add_props(row: &mut ByteRecord, text: &mut Vec<u8>, props: &[Property<'_>]) -> Result<(), Memory>
+    requires { partial_of row.old ≡ [] }
+    ensures { OnOk result (fields_of row.new ≡ fields_of row.old ++ map prop_text (props_borrowed props.now)) }
+{
+    for property in props {
+        add_property(row, text, property.key, property.value)?;
+    }
+    Ok(())
+}
+
+/// Makes `row` the record of an event with these properties.
+fn set_record(
+    row: &mut ByteRecord,
+    text: &mut Vec<u8>,
+    event: BorrowedEvent<'_>,
+    props: &[Property<'_>],
+) -> Result<(), Memory>
+    ensures { OnOk result (fields_of row.new ≡ event_fields (event_borrowed event.entry (props_borrowed props.now))) }
+{
+    match event.subject {
+        Subject::Node(_, name) => {
+            set_node(row, text, event.time, event.order, name)?;
+            add_props(row, text, props)
+        }
+        Subject::Edge(_, src, dst, layer) => {
+            let edge = (src, dst, layer);
+            if event.kind.is_deletion() {
+                return set_deletion(row, text, event.time, event.order, edge);
+            }
+            set_addition(row, text, event.time, event.order, edge)?;
+            add_props(row, text, props)
+        }
+    }
+}
+
+/// Adds the records of the events at places. The nodes and edges are those that the view shows. The
+/// memory that one record takes serves the next.
+fn add_records<'s, V: View, L: Ledger>(
+    alloc: Global,
+    out: &mut RowWriter,
+    row: &mut ByteRecord,
+    view: &'s V,
+    shown: &[Shown<'s>],
+    places: &[EventPlace],
+    steps: &mut Steps<L>,
+) -> Result<(), Memory>
+    requires parts { All (IsPart (V.contents view.now) (V.world view.now)) shown.now }
+    requires placed { All (IsPlaced (V.world view.now) shown.now) places.now }
+    ensures { OnOk result (out.new ≡ out.old ++ rows_text (map row_fields (map (λ p. Recorded (event_placed (V.world view.now) shown.now p)) places.now))) }
+{
+    let mut text = Vec::new(alloc);
+    let mut props = Vec::new(alloc);
+    for place in places {
+        let event = borrowed_event(&mut props, view, shown, *place, steps)?;
+        set_record(row, &mut text, event, props.as_slice())?;
+        out.add(row)?;
+    }
+    Ok(())
+}
+
+/// Adds the part of the world of a view: its bounds, its types, and the records of its events in
+/// canonical order. The span of each node and edge of the store is asked once.
+pub fn add_world_records<V: View, L: Ledger>(
+    alloc: Global,
+    out: &mut RowWriter,
+    view: &V,
+    steps: &mut Steps<L>,
+) -> Result<(), Memory>
+    ensures { OnOk result (out.new ≡ out.old ++ rows_text (part_rows (V.world view.now) (world_rows (V.world view.now)))) }
+{
+    let whole = list_whole(alloc, view, steps)?;
+    let (types, places) = (whole.types.as_slice(), whole.listed.events.as_slice());
+    let bounds = view.bounds();
+    let mut row = ByteRecord::new(alloc);
+    add_world(out, bounds, 1 + types.len() + places.len())?;
+    add_bounds(out, &mut row, bounds)?;
+    add_types(out, &mut row, types)?;
+    let shown = whole.listed.shown.as_slice();
+    add_records(alloc, out, &mut row, view, shown, places, steps)
+}
