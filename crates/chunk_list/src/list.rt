@@ -146,6 +146,7 @@ impl<K: Copy + Default, V: Copy + Default> ChunkList<K, V> {
     }
 
     /// The key at a place, which is looked for first where a search stands.
+    #[inline(always)]
     pub fn key(&self, i: usize, near: Near) -> K
         requires { i < length self.now.items }
         ensures { result ≡ slice_index_or (keys_of self.now.items) i result }

@@ -14,6 +14,7 @@ use std::alloc::{AllocError, Global};
 use std::marker::Model;
 
 /// The part of a place, which may be the one at hand.
+#[inline(always)]
 fn part_of<K: Copy, V: Copy>(firsts: &Places, parts: &[Part<K, V>], i: usize, hand: usize) -> usize
     requires firsts { firsts.now.items ≡ starts 0 parts.now }
     requires some { 0 < length parts.now }
@@ -190,6 +191,7 @@ impl<K: Copy, V: Copy> Parts<K, V> {
     }
 
     /// The key at a place, which is looked for first where a search stands.
+    #[inline(always)]
     pub(crate) fn key(&self, i: usize, near: Near) -> K
         requires { i < length self.now.items }
         ensures { result ≡ slice_index_or (keys_of self.now.items) i result }
