@@ -13,9 +13,9 @@ fn answers_ask(ask: &Ask) -> bool
         Ask::Nodes | Ask::Edges | Ask::Events | Ask::Degree => true,
         Ask::NodeHistory(_) | Ask::EdgeHistory(_) => true,
         Ask::NodeValue(..) | Ask::EdgeValue(..) | Ask::EdgeAlive(..) => true,
+        Ask::Materialise => true,
         Ask::Hops(..) | Ask::Weak | Ask::OutComponent(_) | Ask::InComponent(_) => false,
-        Ask::Core(_) | Ask::CoreNumbers | Ask::Arrival(..) => false,
-        Ask::Materialise | Ask::Updates => false,
+        Ask::Core(_) | Ask::CoreNumbers | Ask::Arrival(..) | Ask::Updates => false,
     }
 }
 
