@@ -1,5 +1,7 @@
-//! Tests of views in views, by value and over references.
+//! Tests of views: views in views, by value and over references, and what is listed and counted of a view.
 #![tactic(auto)]
 
+#[cfg(test)]
+mod listing;
 #[cfg(test)]
 mod tests;
