@@ -1,7 +1,7 @@
 #!/bin/sh
 # Puts updates of one entity in rising, shuffled and falling order of time, and prints how long the
 # first takes and the others in percent of it. The program is written, proved and built in a folder of
-# its own, over the crates of this repository.
+# its own, over the crates of this repository. Where rustc is there, the same is printed of a BTreeMap.
 #
 #     sh bench/late_updates.sh
 set -eu
@@ -150,3 +150,9 @@ END
 cd "$work/crates/late_updates"
 rt run > "$work/log" 2>&1 || { tail -20 "$work/log"; exit 1; }
 grep -E '^[0-9]+ updates:|^a history takes' "$work/log"
+
+# The same updates in a BTreeMap of plain Rust, where its compiler is there.
+if command -v rustc > /dev/null; then
+    rustc -O "$root/bench/late_updates_in_a_btree_map.rs" -o "$work/btree"
+    "$work/btree"
+fi
