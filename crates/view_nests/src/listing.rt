@@ -161,10 +161,10 @@ fn moments<L: Ledger>(
     alloc: Global,
     graph: PersistentGraph<'_>,
     steps: &mut Steps<L>,
-) -> Result<(), Memory> {
+) -> Result<(), Fail> {
     let store = graph.store;
     if store.nodes() == 0 || store.edges() == 0 {
-        return Ok(());
+        return Err(Fail::from("the store has a node and an edge"));
     }
     times_are(
         rt,
