@@ -2,3 +2,4 @@ pub mod Joined
 pub mod Pairing
 pub mod Sums
 pub mod Middles
+pub mod Lookups

@@ -10,7 +10,7 @@ form_view Empty = record { items = []; spare = 1 }
 form_view (One a) = record { items = a ∷ []; spare = 0 }
 form_view (Few v) = record { items = v.items; spare = min (vec_capacity v) 8 - vec_len v }
 form_view (Flat c) = record { items = c.value.items; spare = min c.value.spare (256 - length c.value.items) }
-form_view (Long p) = p.value
+form_view (Long l) = l.value
 
 -- a list of few has at most eight items, and a flat one no more than a part
 abbrev pub IsShort : {K V : Type 0} → Form K V → Type 0
@@ -18,7 +18,7 @@ IsShort Empty = ⊤
 IsShort (One a) = ⊤
 IsShort (Few v) = vec_len v ≤ 8
 IsShort (Flat c) = length c.value.items ≤ 256
-IsShort (Long p) = ⊤
+IsShort (Long l) = ⊤
 
 -- one more item fits in this form
 abbrev pub TakesMore : {K V : Type 0} → Form K V → Type 0
@@ -26,7 +26,7 @@ TakesMore Empty = ⊤
 TakesMore (One a) = ⊥
 TakesMore (Few v) = vec_len v < 8
 TakesMore (Flat c) = length c.value.items < 256
-TakesMore (Long p) = ⊤
+TakesMore (Long l) = ⊤
 
 -- another form of the same items, where this one is full
 pub record Replaces {K V : Type 0} (old new : Form K V) : Type 0 where

@@ -1,5 +1,6 @@
 pub mod Spaced
 pub mod Parts
+pub mod Long
 pub mod Form
 pub mod Groups
 pub mod Middle

@@ -4,6 +4,7 @@
 
 mod columns;
 mod list;
+mod long;
 mod near;
 mod part;
 mod parts;

@@ -5,9 +5,9 @@ ghost use Rattle.chunk_list.specs.Middle.{IsMiddle};
 ghost use Rattle.std.specs.Map.{keys_of};
 
 use crate::columns::{Columns, reserve_block};
+use crate::long::Long;
 use crate::near::{Near, exact_middle};
 use crate::part::MOST;
-use crate::parts::Parts;
 use std::alloc::{AllocError, Global};
 use std::marker::Model;
 
@@ -21,16 +21,19 @@ enum Form<K: Copy + Default, V: Copy + Default> {
     One((K, V)),
     /// At most `FEW`.
     Few(Vec<(K, V)>),
-    /// At most as many as a part takes.
+    /// At most as many as a part takes, the keys in one block and what stands beside them in another.
     Flat(Box<Columns<K, V>>),
-    Long(Box<Parts<K, V>>),
+    /// The keys in parts, and what stands beside them in the order in which it came.
+    Long(Box<Long<K, V>>),
 }
 
 /// A list of items, each a key and what stands beside it, that takes insertions at any place. A contract
 /// sees its items, and how many more it takes without memory. One item takes no memory of its own, and up
 /// to 8 lie whole in one block. The keys of a longer list lie side by side, and what stands beside them
-/// lies apart. A list of more than 256 items lies in parts of at most 256, and a part that is full is
-/// split in two.
+/// lies apart. The keys of more than 256 items lie in parts of at most 256, and a part that is full is
+/// split in two: each key lies there with the place of what stands beside it, which lies in the order in
+/// which it came, so that an insertion moves keys and places alone. There is no room for more than
+/// 4 294 967 296 items.
 #[derive(Drop)]
 pub struct ChunkList<K: Copy + Default, V: Copy + Default> {
     form: Form<K, V>,
@@ -69,7 +72,7 @@ fn columns_of<K: Copy, V: Copy>(
     Ok(columns)
 }
 
-/// The items of full columns in parts.
+/// The items of full columns, in the form of a long list.
 fn long_form<K: Copy + Default, V: Copy + Default>(
     alloc: Global,
     columns: &Columns<K, V>,
@@ -79,8 +82,8 @@ fn long_form<K: Copy + Default, V: Copy + Default>(
     ensures room { IfOk result (λ form. 0 < (form_view form).spare) }
     ensures short { IfOk result IsShort }
 {
-    let parts = Parts::new(alloc, columns)?;
-    Ok(Form::Long(Box::new(alloc, parts)?))
+    let long = Long::new(alloc, columns)?;
+    Ok(Form::Long(Box::new(alloc, long)?))
 }
 
 /// The form that comes next, where one takes no more items.
@@ -127,7 +130,7 @@ impl<K: Copy + Default, V: Copy + Default> ChunkList<K, V> {
             Form::One(_) => 1,
             Form::Few(items) => items.len(),
             Form::Flat(columns) => columns.len(),
-            Form::Long(parts) => parts.len(),
+            Form::Long(long) => long.len(),
         }
     }
 
@@ -141,7 +144,7 @@ impl<K: Copy + Default, V: Copy + Default> ChunkList<K, V> {
             Form::One(item) => *item,
             Form::Few(items) => items[i],
             Form::Flat(columns) => columns.get(i),
-            Form::Long(parts) => parts.get(i, near),
+            Form::Long(long) => long.get(i, near),
         }
     }
 
@@ -156,14 +159,14 @@ impl<K: Copy + Default, V: Copy + Default> ChunkList<K, V> {
             Form::One(item) => item.0,
             Form::Few(items) => items[i].0,
             Form::Flat(columns) => columns.key(i),
-            Form::Long(parts) => parts.key(i, near),
+            Form::Long(long) => long.key(i, near),
         }
     }
 
     /// Where a search from one place up to another begins.
     pub fn near(&self, from: usize, to: usize) -> Near {
         match &self.form {
-            Form::Long(parts) if from < to => parts.near(from, to),
+            Form::Long(long) if from < to => long.near(from, to),
             _ => Near::default(),
         }
     }
@@ -174,7 +177,7 @@ impl<K: Copy + Default, V: Copy + Default> ChunkList<K, V> {
         ensures { IsMiddle from to result }
     {
         match &self.form {
-            Form::Long(parts) => parts.middle(from, to, near),
+            Form::Long(long) => long.middle(from, to, near),
             _ => exact_middle(from, to),
         }
     }
@@ -194,7 +197,7 @@ impl<K: Copy + Default, V: Copy + Default> ChunkList<K, V> {
         match &mut self.form {
             Form::Few(items) => reserve_block(items, FEW),
             Form::Flat(columns) => columns.reserve(MOST),
-            Form::Long(parts) => parts.reserve(),
+            Form::Long(long) => long.reserve(),
             _ => Ok(()),
         }
     }
@@ -211,7 +214,7 @@ impl<K: Copy + Default, V: Copy + Default> ChunkList<K, V> {
                 let _ = items.insert(i, item);
             }
             Form::Flat(columns) => columns.put(i, item),
-            Form::Long(parts) => parts.put(i, item),
+            Form::Long(long) => long.put(i, item),
             few => *few = Form::One(item),
         }
     }
