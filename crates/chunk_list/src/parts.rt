@@ -88,8 +88,9 @@ fn split<K: Copy, V: Copy>(
     firsts.insert(at + 1, first + cut);
 }
 
-/// Puts an item in a part that is full, by splitting it. What comes after the last item goes to a part
-/// of its own, so that a list that grows at its end has full parts.
+/// Puts an item in a part that is full, by splitting it in the middle. What comes before the first item of
+/// all goes to a part of its own, as does what comes after the last item of the part, so that a list that
+/// grows at its front or at its end has full parts.
 fn put_in_full<K: Copy, V: Copy>(
     firsts: &mut Places,
     parts: &mut Vec<Part<K, V>>,
@@ -111,6 +112,11 @@ fn put_in_full<K: Copy, V: Copy>(
     ensures items { joined parts.new.items ≡ insert (joined parts.old.items) i item }
     ensures len { vec_len parts.old ≤ vec_len parts.new }
 {
+    if i == 0 {
+        split(firsts, parts, fresh, at, 0);
+        put_in(firsts, parts, at, i, item);
+        return;
+    }
     let offset = i - firsts.get(at);
     if offset == MOST {
         split(firsts, parts, fresh, at, MOST);

@@ -12,7 +12,10 @@ pub overflow_sub-offset : goal.overflow_sub-offset
 overflow_sub-offset g c = omega (arith, c.get.ensures, c.requires.low)
 
 pub put_in-requires-clause-room : goal.put_in-requires-clause-room
-put_in-requires-clause-room g c = omega (arith, ap length c.split.ensures.upper, length-drop 256 (part_at c.args.parts.now.items c.args.at), c.requires.full)
+put_in-requires-clause-room g c = omega (arith, ap length c.split.ensures.lower, length-take 0 (part_at c.args.parts.now.items c.args.at))
+
+pub put_in-requires-then-offset-eq-MOST-clause-room : goal.put_in-requires-then-offset-eq-MOST-clause-room
+put_in-requires-then-offset-eq-MOST-clause-room g c = omega (arith, ap length c.split-then-offset-eq-MOST.ensures.upper, length-drop 256 (part_at c.args.parts.now.items c.args.at), c.requires.full)
 
 pub put_in-requires-then-offset-clause-high : goal.put_in-requires-then-offset-clause-high
 put_in-requires-then-offset-clause-high g c =
@@ -37,5 +40,8 @@ put_in-requires-else-offset-clause-room g c =
 pub put_in-requires-clause-fits : goal.put_in-requires-clause-fits
 put_in-requires-clause-fits g c = omega (arith, c.requires.fits, ap length c.split.ensures.items)
 
+pub put_in-requires-then-offset-eq-MOST-clause-fits : goal.put_in-requires-then-offset-eq-MOST-clause-fits
+put_in-requires-then-offset-eq-MOST-clause-fits g c = omega (arith, c.requires.fits, ap length c.split-then-offset-eq-MOST.ensures.items)
+
 pub returns-then-offset-eq-MOST-clause-items : goal.returns-then-offset-eq-MOST-clause-items
-returns-then-offset-eq-MOST-clause-items g c = c.put_in.ensures.items ∙ ap (λ xs. insert xs c.args.i c.args.item) c.split.ensures.items
+returns-then-offset-eq-MOST-clause-items g c = c.put_in-then-offset-eq-MOST.ensures.items ∙ ap (λ xs. insert xs c.args.i c.args.item) c.split-then-offset-eq-MOST.ensures.items
