@@ -1,6 +1,7 @@
 -- Properties that are borrowed, as pairs.
-use Rattle.std.proofs.Common.{◌≡◌, ℕ, zero, suc, ◌+◌, ◌-◌, ◌<◌, ◌≤◌, Bool, true, false, not, ◌||◌, List, [], ◌∷◌, length, drop, get_or, cond, refl, sym, ◌∙◌, ap, subst, arith}
-use Rattle.std.specs.List.{position_or_len, insert, AllByRecursion, All}
+use Rattle.std.proofs.Common.{◌≡◌, ℕ, zero, suc, ◌+◌, ◌-◌, ◌<◌, ◌≤◌, Bool, true, false, not, ◌||◌, List, [], ◌∷◌, length, map, drop, get_or, Some, cond, refl, sym, ◌∙◌, ap, subst, arith}
+use Rattle.std.specs.Prelude.{slice_get}
+use Rattle.std.specs.List.{list_any, position_or_len, insert, AllByRecursion, All}
 use Rattle.std.specs.declared.cmp.Ordering.TheVariants.{Less}
 use Rattle.std.specs.Ordering.{is_lt}
 use Rattle.std.proofs.Math.Numerals.{one-add}
@@ -9,14 +10,14 @@ use Rattle.std.proofs.lemmas.List.{drop_more}
 use Rattle.std.proofs.lemmas.List.Elements.{recursion_from_All}
 use Rattle.graph_model.specs.declared.properties.Value.{Value}
 use Rattle.graph_model.specs.Names.{name_cmp, same_name}
-use Rattle.graph_model.specs.Props.{has_key, put_prop, KeysRise}
+use Rattle.graph_model.specs.Props.{has_key, put_prop, overwrite, KeysRise}
 use Rattle.graph_model.proofs.PropItems.{KeysRise-put}
 use Rattle.world_laws.proofs.Distinct.{any-put_prop}
 use Rattle.time_history.specs.KeyValues.{KeysRise as NumbersRise}
 use Rattle.time_history.specs.Told.{named}
 use Rattle.materialise.specs.declared.borrowed.Property.{Property}
 use Rattle.materialise.specs.Borrowed.{props_borrowed}
-use Rattle.materialise.proofs.LiveProps.{other_name}
+use Rattle.materialise.proofs.LiveProps.{no_value, key_there, key_below, named_more, overwrite_more, each_drop, other_name}
 
 put_cases : (x y : Property) (ys : List Property) (n : ℕ) → put_prop (x.key.now, x.value.now) (props_borrowed ys) ≡ props_borrowed (insert ys n x) → (t : Bool)
     → cond t ((x.key.now, x.value.now) ∷ (y.key.now, y.value.now) ∷ props_borrowed ys) ((y.key.now, y.value.now) ∷ put_prop (x.key.now, x.value.now) (props_borrowed ys)) ≡ props_borrowed (insert (y ∷ ys) (cond (not t) (1 + n) 0) x)
@@ -27,6 +28,11 @@ put_cases x y ys n h false = rw one-add (ap (λ ps. (y.key.now, y.value.now) ∷
 pub put_borrowed : (x : Property) (items : List Property) → put_prop (x.key.now, x.value.now) (props_borrowed items) ≡ props_borrowed (insert items (position_or_len (λ p. is_lt (name_cmp x.key.now p.key.now)) items) x)
 put_borrowed x [] = refl
 put_borrowed x (y ∷ ys) = put_cases x y ys (position_or_len (λ p. is_lt (name_cmp x.key.now p.key.now)) ys) (put_borrowed x ys) (is_lt (name_cmp x.key.now y.key.now))
+
+-- whether some have a key
+pub has_key-borrowed : (key : List ℕ) (items : List Property) → has_key key (props_borrowed items) ≡ list_any (λ p. same_name key p.key.now) items
+has_key-borrowed key [] = refl
+has_key-borrowed key (x ∷ xs) = ap (λ t. same_name key x.key.now || t) (has_key-borrowed key xs)
 
 -- ---- the names of rising numbers
 
@@ -45,6 +51,30 @@ named_rises names n apart (p ∷ vs) h k = KeysRise-put (names p.0, p.1) (named 
 
 pub named_rise : (names : ℕ → List ℕ) (n : ℕ) → ((i j : ℕ) → i < n → j < n → names i ≡ names j → i ≡ j) → (vs : List (ℕ × Value)) → All (λ (p : ℕ × Value). p.0 < n) vs → NumbersRise vs → KeysRise (named names vs)
 named_rise names n apart vs h k = named_rises names n apart vs (recursion_from_All (λ (p : ℕ × Value). p.0 < n) vs h) k
+
+-- ---- the values of an update whose keys have none, from the last to the first
+
+numbers_from : (vs : List (ℕ × Value)) (j : ℕ) → NumbersRise vs → NumbersRise (drop j vs)
+numbers_from vs zero h = h
+numbers_from [] (suc j) h = tt
+numbers_from (v ∷ vs) (suc j) h = numbers_from vs j h.1
+
+pub earlier_more : (names : ℕ → List ℕ) (n : ℕ) → ((i j : ℕ) → i < n → j < n → names i ≡ names j → i ≡ j) → (vs : List (ℕ × Value)) (j : ℕ) (before old new : List (List ℕ × Value)) (key : ℕ) (v : Value) (name : List ℕ)
+    → All (λ (p : ℕ × Value). p.0 < n) vs → NumbersRise vs → KeysRise before → 0 < j → j ≤ length vs → slice_get (map (λ (p : ℕ × Value). p.0) vs) (j - 1) ≡ Some key → slice_get (map (λ (p : ℕ × Value). p.1) vs) (j - 1) ≡ Some v
+    → name ≡ names key → old ≡ overwrite (named names (drop j vs)) before → new ≡ overwrite ((name, v) ∷ []) old → new ≡ overwrite (named names (drop (j - 1) vs)) before
+earlier_more names n apart vs j before old new key v name below rise up some le at_key at_value is was put =
+    let lt : j - 1 < length vs = omega arith in
+    let next : j - 1 + 1 ≡ j = omega arith in
+    let rest = drop j vs in
+    let whole : drop (j - 1) vs ≡ get_or vs (j - 1) no_value ∷ rest = drop_more vs (j - 1) no_value lt ∙ ap (λ k. get_or vs (j - 1) no_value ∷ drop k vs) next in
+    let under : AllByRecursion (λ (p : ℕ × Value). p.0 < n) rest = each_drop (λ (p : ℕ × Value). p.0 < n) j vs (recursion_from_All (λ (p : ℕ × Value). p.0 < n) vs below) in
+    let all : NumbersRise (get_or vs (j - 1) no_value ∷ rest) = subst NumbersRise whole (numbers_from vs (j - 1) rise) in
+    let above : AllByRecursion (λ (p : ℕ × Value). key < p.0) rest = subst (λ m. AllByRecursion (λ (p : ℕ × Value). m < p.0) rest) (key_there vs (j - 1) key lt at_key) all.0 in
+    let free : has_key name (named names rest) ≡ false = ap (λ z. has_key z (named names rest)) is ∙ greater_lack names n key apart (key_below vs (j - 1) key n below lt at_key) rest under above in
+    put
+    ∙ (ap (overwrite ((name, v) ∷ [])) was
+    ∙ (overwrite_more (name, v) (named names rest) before free (named_rises names n apart rest under all.1) up
+    ∙ ap (λ ps. overwrite ps before) (named_more names vs j (named names rest) (put_prop (name, v) (named names rest)) key v name some le at_key at_value is refl refl)))
 
 -- ---- properties that rise, put from the last to the first
 

@@ -1,11 +1,11 @@
 //! The events of a view, borrowed from its store.
-ghost use Rattle.std.specs.Prelude.{◌≡◌, ◌+◌, ◌-◌, ◌<◌, ◌≤◌, ◌==◌, ◌&&◌, false, IfOk, OnOk, length, take, if◌then◌else◌};
-ghost use Rattle.std.specs.List.{All, position_or_len};
+ghost use Rattle.std.specs.Prelude.{◌≡◌, ◌∷◌, [], ◌+◌, ◌-◌, ◌<◌, ◌≤◌, ◌==◌, ◌&&◌, false, IfOk, OnOk, length, take, if◌then◌else◌};
+ghost use Rattle.std.specs.List.{All, list_any, position_or_len};
 ghost use Rattle.std.specs.Ordering.{is_lt};
-ghost use Rattle.graph_model.specs.Compare.{live, value_of};
+ghost use Rattle.graph_model.specs.Compare.{live};
 ghost use Rattle.graph_model.specs.Entity.{update_of};
-ghost use Rattle.graph_model.specs.Names.{name_cmp};
-ghost use Rattle.graph_model.specs.Props.{KeysRise, put_prop};
+ghost use Rattle.graph_model.specs.Names.{name_cmp, same_name};
+ghost use Rattle.graph_model.specs.Props.{KeysRise, overwrite, put_prop};
 ghost use Rattle.graph_model.specs.Window.{last_props};
 ghost use Rattle.graph_model.specs.World.{events_of};
 ghost use Rattle.time_history.specs.Asked.{AreNamed};
@@ -15,7 +15,7 @@ ghost use Rattle.graph_store.specs.Contents.{key_names_for};
 ghost use Rattle.view_trait.specs.Meaning.{Tells};
 ghost use Rattle.materialise.specs.Borrowed.{event_borrowed, props_borrowed};
 ghost use Rattle.materialise.specs.Listing.{entity_named, IsNumbered, IsPart, IsPlaced, event_at, event_placed};
-ghost use Rattle.materialise.specs.Keyed.{key_count, with_value};
+ghost use Rattle.materialise.specs.Keyed.{key_count};
 
 use crate::listing::{EventPlace, Shown, Subject};
 use graph_model::{Memory, Name, Value};
@@ -149,34 +149,52 @@ fn keys_of(store: &Store, subject: Subject<'_>) -> u32
     }
 }
 
-/// Puts the value that a node or an edge has for a key before a place of its history, if it has one.
-fn put_live<'s>(
+/// Whether properties have a key.
+fn has_value(props: &[Property<'_>], key: &Name) -> bool
+    ensures { result ≡ list_any (λ p. same_name key.now p.key.now) props.now }
+{
+    props.iter().any(|property| *key == *property.key)
+}
+
+/// Puts a value of a key in its place, where the key has none.
+fn put_missing<'s>(
+    props: &mut Vec<Property<'s>>,
+    key: &'s Name,
+    value: &'s Value,
+) -> Result<(), Memory>
+    ensures { OnOk result (props_borrowed props.new.items ≡ overwrite ((key.now, value.now) ∷ []) (props_borrowed props.old.items)) }
+{
+    if has_value(props.as_slice(), key) {
+        return Ok(());
+    }
+    put_value(props, key, value)
+}
+
+/// Puts the values of an update whose keys have none.
+fn put_earlier<'s>(
     props: &mut Vec<Property<'s>>,
     store: &'s Store,
     subject: Subject<'_>,
     history: &'s History,
-    to: u32,
-    key: u32,
+    i: u32,
 ) -> Result<(), Memory>
-    requires key { key < key_count store.now (entity_named subject) }
-    requires end { to ≤ length history.now.updates }
-    requires tells { Tells store.now (entity_named subject) history.now.updates }
+    requires place { i < length history.now.updates }
     requires keys { AreNamed (key_names_for store.now (entity_named subject)) (key_count store.now (entity_named subject)) history.now.updates }
-    ensures { OnOk result (props_borrowed props.new.items ≡ with_value (key_names_for store.now (entity_named subject.entry) key) (value_of (key_names_for store.now (entity_named subject.entry) key) (take to (events_told (entity_named subject.entry) (key_names_for store.now (entity_named subject.entry)) history.now.updates))) (props_borrowed props.old.items)) }
+    requires rise { KeysRise (props_borrowed props.old.items) }
+    ensures { OnOk result (props_borrowed props.new.items ≡ overwrite (named (key_names_for store.now (entity_named subject.entry)) (update_at history.now.updates i).props) (props_borrowed props.old.items)) }
 {
-    let span = Span {
-        from: 0,
-        to,
-        carried: false,
-    };
-    match history.value(span, key) {
-        Some(value) => put_value(props, key_of(store, subject, key), value),
-        None => Ok(()),
+    let values = history.values_at(i);
+    let mut j = values.len();
+    while j > 0 {
+        j -= 1;
+        let key = key_of(store, subject, values.key_at(j));
+        put_missing(props, key, values.value_at(j))?;
     }
+    Ok(())
 }
 
 /// Makes `props` the last values that a node or an edge has before a place of its history, after its
-/// last deletion.
+/// last deletion. The updates are read once, from the last one back, until every key has a value.
 fn set_live<'s>(
     props: &mut Vec<Property<'s>>,
     store: &'s Store,
@@ -192,8 +210,14 @@ fn set_live<'s>(
 {
     let _lawful = store.events();
     props.clear();
-    for key in 0..keys_of(store, subject) {
-        put_live(props, store, subject, history, to, key)?;
+    let keys = keys_of(store, subject) as usize;
+    let mut i = to;
+    while i > 0 && props.len() < keys {
+        i -= 1;
+        if history.kind_at(i).is_deletion() {
+            return Ok(());
+        }
+        put_earlier(props, store, subject, history, i)?;
     }
     Ok(())
 }

@@ -1,58 +1,80 @@
-use Rattle.std.proofs.Common.{◌≡◌, ◌<◌, [], take, refl, subst, sym, ap, arith}
+use Rattle.std.proofs.Common.{◌≡◌, ◌<◌, ◌-◌, [], length, take, subst, sym, ap, ◌∙◌, arith}
 use Rattle.std.specs.List.{AllByRecursion}
+use Rattle.std.proofs.lemmas.List.{length-map}
 use Rattle.graph_model.specs.declared.events.Event.{Event}
 use Rattle.graph_model.specs.Props.{KeysRise}
-use Rattle.graph_model.specs.Compare.{value_of}
 use Rattle.graph_model.specs.Entity.{props_of, is_about}
 use Rattle.world_laws.proofs.Filters.{each_kept}
-use Rattle.time_history.specs.Told.{events_told}
+use Rattle.world_laws.proofs.Values.{KeysRise-overwrite}
+use Rattle.time_history.specs.Kinds.{is_delete}
+use Rattle.time_history.specs.Updates.{update_at}
+use Rattle.time_history.specs.Told.{named, events_told}
 use Rattle.graph_store.specs.Contents.{key_names_for, base_of}
+use Rattle.materialise.specs.declared.borrowed.Property.{Property}
 use Rattle.materialise.specs.Borrowed.{props_borrowed}
 use Rattle.materialise.specs.Listing.{entity_named}
 use Rattle.materialise.specs.Keyed.{key_count}
-use Rattle.materialise.proofs.LiveProps.{Gathered, gathered_none, gathered_more, gathered_rise, carried_props}
+use Rattle.materialise.proofs.LiveProps.{gathered_none, gathered_more, gathered_all, gathered_deleted, gathered_enough}
 use Rattle.materialise.proofs.borrowed.set_live.Goals as goal
 
-pub loop-key-init : goal.loop-key-init
-loop-key-init c =
+pub loop-i-init : goal.loop-i-init
+loop-i-init c =
     let x = entity_named c.args.subject in
-    let names = key_names_for c.args.store.now x in
-    let events = take c.args.to (events_told x names c.args.history.now.updates) in
     let none : props_borrowed c.clear.new.self.items ≡ [] = ap props_borrowed c.clear.ensures.items in
     record {
-      values = subst (Gathered names events 0) (sym none) (gathered_none names events);
+      within = omega arith;
       rise = subst KeysRise (sym none) tt;
+      values = gathered_none c.args.to (events_told x (key_names_for c.args.store.now x) c.args.history.now.updates) (props_borrowed c.clear.new.self.items) none;
     }
 
-pub loop-key-preserved : goal.loop-key-preserved
-loop-key-preserved c =
-    let x = entity_named c.args.subject in
-    let names = key_names_for c.args.store.now x in
-    let events = take c.args.to (events_told x names c.args.history.now.updates) in
-    let key = c.loop-key.key in
-    let old = props_borrowed c.loop-key.props.items in
-    let new = props_borrowed c.put_live.new.props.items in
-    let count = c.keys_of-key-end.ensures in
-    let test = c.loop-key-test.true in
-    let total = key_count c.args.store.now x in
-    let lt : key < total = omega (arith, count, test) in
-    let apart = c.requires.keys.apart in
-    record {
-      values = gathered_more names events key total old new (names key) (value_of (names key) events) apart lt refl refl c.loop-key.invariant.values c.in_ok-put_live.ensures;
-      rise = gathered_rise names events key total old new (names key) (value_of (names key) events) apart lt refl c.loop-key.invariant.values c.loop-key.invariant.rise c.in_ok-put_live.ensures;
-    }
-
-pub returns-clause-values : goal.returns-clause-values
-returns-clause-values c =
+pub loop-i-preserved : goal.loop-i-preserved
+loop-i-preserved c =
     let x = entity_named c.args.subject in
     let names = key_names_for c.args.store.now x in
     let us = c.args.history.now.updates in
-    let events = take c.args.to (events_told x names us) in
-    let count = c.keys_of-key-end.ensures in
-    let past = c.loop-key-test.false in
-    let end = c.loop-key.auto.key-end in
-    let props = props_borrowed c.loop-key.props.items in
-    let all : c.loop-key.key ≡ key_count c.args.store.now x = omega (arith, count, past, end) in
+    let some = c.loop-i-test.true in
+    let within = c.loop-i.invariant.within in
+    let old = props_borrowed c.loop-i.props.items in
+    let new = props_borrowed c.put_earlier.new.props.items in
     let rise : AllByRecursion (λ (y : Event). KeysRise (props_of y)) (events_told x names us) =
     subst (AllByRecursion (λ (y : Event). KeysRise (props_of y))) (sym c.requires.tells.told) (each_kept (λ (y : Event). KeysRise (props_of y)) (is_about x) (base_of c.args.store.now).events c.events-lawful.ensures.lawful.rising) in
-    carried_props x names (key_count c.args.store.now x) us c.args.to props c.requires.keys rise (subst (λ n. Gathered names events n props) all c.loop-key.invariant.values) c.loop-key.invariant.rise
+    record {
+      within = omega (arith, some, within);
+      rise = subst KeysRise (sym c.in_ok-put_earlier.ensures) (KeysRise-overwrite (named names (update_at us (c.loop-i.i - 1)).props) old c.loop-i.invariant.rise);
+      values = gathered_more x names (key_count c.args.store.now x) us c.args.to c.loop-i.i old c.requires.end rise c.loop-i.invariant.values new c.requires.tells.fits (omega (arith, some)) within (sym (c.if-is_deletion.ensures ∙ ap is_delete c.kind_at.ensures)) c.in_ok-put_earlier.ensures;
+    }
+
+pub returns-then-is_deletion-clause-values : goal.returns-then-is_deletion-clause-values
+returns-then-is_deletion-clause-values c =
+    let x = entity_named c.args.subject in
+    let names = key_names_for c.args.store.now x in
+    let us = c.args.history.now.updates in
+    let some = c.loop-i-test.true in
+    let within = c.loop-i.invariant.within in
+    let rise : AllByRecursion (λ (y : Event). KeysRise (props_of y)) (events_told x names us) =
+    subst (AllByRecursion (λ (y : Event). KeysRise (props_of y))) (sym c.requires.tells.told) (each_kept (λ (y : Event). KeysRise (props_of y)) (is_about x) (base_of c.args.store.now).events c.events-lawful.ensures.lawful.rising) in
+    gathered_deleted x names (key_count c.args.store.now x) us c.args.to c.loop-i.i (props_borrowed c.loop-i.props.items) c.requires.end rise c.loop-i.invariant.values c.requires.tells.fits (omega (arith, some)) within (sym (c.if-is_deletion.ensures ∙ ap is_delete c.kind_at.ensures))
+
+pub returns-else-len-keys-clause-values : goal.returns-else-len-keys-clause-values
+returns-else-len-keys-clause-values c =
+    let x = entity_named c.args.subject in
+    let names = key_names_for c.args.store.now x in
+    let us = c.args.history.now.updates in
+    let props = c.loop-i.props.items in
+    let count = c.keys_of-keys.ensures in
+    let len = c.len.ensures in
+    let past = c.if-len-keys.false in
+    let pairs : length (props_borrowed props) ≡ length props = length-map props (λ (p : Property). (p.key.now, p.value.now)) in
+    let rise : AllByRecursion (λ (y : Event). KeysRise (props_of y)) (events_told x names us) =
+    subst (AllByRecursion (λ (y : Event). KeysRise (props_of y))) (sym c.requires.tells.told) (each_kept (λ (y : Event). KeysRise (props_of y)) (is_about x) (base_of c.args.store.now).events c.events-lawful.ensures.lawful.rising) in
+    gathered_enough x names (key_count c.args.store.now x) us c.args.to c.loop-i.i (props_borrowed props) c.requires.end rise c.loop-i.invariant.values c.requires.keys (omega (arith, count, len, past, pairs))
+
+pub returns-after-loop-i-clause-values : goal.returns-after-loop-i-clause-values
+returns-after-loop-i-clause-values c =
+    let x = entity_named c.args.subject in
+    let names = key_names_for c.args.store.now x in
+    let us = c.args.history.now.updates in
+    let past = c.loop-i-test.false in
+    let rise : AllByRecursion (λ (y : Event). KeysRise (props_of y)) (events_told x names us) =
+    subst (AllByRecursion (λ (y : Event). KeysRise (props_of y))) (sym c.requires.tells.told) (each_kept (λ (y : Event). KeysRise (props_of y)) (is_about x) (base_of c.args.store.now).events c.events-lawful.ensures.lawful.rising) in
+    gathered_all x names (key_count c.args.store.now x) us c.args.to c.loop-i.i (props_borrowed c.loop-i.props.items) c.requires.end rise c.loop-i.invariant.values (omega (arith, past))
