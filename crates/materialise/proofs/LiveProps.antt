@@ -304,7 +304,7 @@ drop_taken (suc n) (x ∷ xs) = drop_taken n xs
 pub gathered_none : (to : ℕ) (es : List Event) (props : List (List ℕ × Value)) → props ≡ [] → Gathered (take to es) to props
 gathered_none to es props none = let nothing = sym (drop_taken to es) in record { kept = ap (list_any is_deletion) (sym nothing); values = none ∙ ap last_props nothing }
 
-module _ (x : Entity) (names : ℕ → List ℕ) (n : ℕ) (us : List Update) (to i : ℕ) (props : List (List ℕ × Value)) (le : to ≤ length us) (rise : AllByRecursion (λ y. KeysRise (props_of y)) (events_told x names us)) (h : Gathered (take to (events_told x names us)) i props) where
+module _ (x : Entity) (names : ℕ → List ℕ) (us : List Update) (to i : ℕ) (props : List (List ℕ × Value)) (le : to ≤ length us) (rise : AllByRecursion (λ y. KeysRise (props_of y)) (events_told x names us)) (h : Gathered (take to (events_told x names us)) i props) where
   each : AllByRecursion (λ y. KeysRise (props_of y)) (take to (events_told x names us))
   each = each_take (λ y. KeysRise (props_of y)) to (events_told x names us) rise
 
@@ -350,8 +350,8 @@ module _ (x : Entity) (names : ℕ → List ℕ) (n : ℕ) (us : List Update) (t
       h.values ∙ ap last_props (sym (ap live parts ∙ live_after (take (i - 1) es) y (drop i es) deletion h.kept))
 
   -- every key has a value
-  pub gathered_enough : AreNamed names n us → n ≤ length props → props ≡ last_props (live (take to (events_told x names us)))
-  gathered_enough are enough =
+  pub gathered_enough : (n : ℕ) → AreNamed names n us → n ≤ length props → props ≡ last_props (live (take to (events_told x names us)))
+  gathered_enough n are enough =
       let es = take to (events_told x names us) in
       let early = take i es in
       let late = drop i es in

@@ -1,21 +1,29 @@
-use Rattle.std.proofs.Common.{◌≡◌, ◌<◌, ◌-◌, [], length, take, subst, sym, ap, ◌∙◌, arith}
+use Rattle.std.proofs.Common.{◌≡◌, ◌-◌, List, [], length, subst, sym, ap, ◌∙◌, arith}
 use Rattle.std.specs.List.{AllByRecursion}
 use Rattle.std.proofs.lemmas.List.{length-map}
+use Rattle.graph_model.specs.declared.events.Entity.{Entity}
 use Rattle.graph_model.specs.declared.events.Event.{Event}
 use Rattle.graph_model.specs.Props.{KeysRise}
 use Rattle.graph_model.specs.Entity.{props_of, is_about}
+use Rattle.graph_model.specs.World.{IsLawful}
 use Rattle.world_laws.proofs.Filters.{each_kept}
 use Rattle.world_laws.proofs.Values.{KeysRise-overwrite}
+use Rattle.time_history.specs.declared.updates.Update.{Update}
 use Rattle.time_history.specs.Kinds.{is_delete}
 use Rattle.time_history.specs.Updates.{update_at}
 use Rattle.time_history.specs.Told.{named, events_told}
-use Rattle.graph_store.specs.Contents.{key_names_for, base_of}
+use Rattle.graph_store.specs.Contents.{Contents, key_names_for, base_of}
+use Rattle.view_trait.specs.Meaning.{Tells}
 use Rattle.materialise.specs.declared.borrowed.Property.{Property}
 use Rattle.materialise.specs.Borrowed.{props_borrowed}
 use Rattle.materialise.specs.Listing.{entity_named}
 use Rattle.materialise.specs.Keyed.{key_count}
 use Rattle.materialise.proofs.LiveProps.{gathered_none, gathered_more, gathered_all, gathered_deleted, gathered_enough}
 use Rattle.materialise.proofs.borrowed.set_live.Goals as goal
+
+-- the properties of the events that a history tells rise
+rises : (s : Contents) (x : Entity) (us : List Update) → Tells s x us → IsLawful (base_of s) → AllByRecursion (λ (y : Event). KeysRise (props_of y)) (events_told x (key_names_for s x) us)
+rises s x us tells lawful = subst (AllByRecursion (λ (y : Event). KeysRise (props_of y))) (sym tells.told) (each_kept (λ (y : Event). KeysRise (props_of y)) (is_about x) (base_of s).events lawful.rising)
 
 pub loop-i-init : goal.loop-i-init
 loop-i-init c =
@@ -36,12 +44,11 @@ loop-i-preserved c =
     let within = c.loop-i.invariant.within in
     let old = props_borrowed c.loop-i.props.items in
     let new = props_borrowed c.put_earlier.new.props.items in
-    let rise : AllByRecursion (λ (y : Event). KeysRise (props_of y)) (events_told x names us) =
-    subst (AllByRecursion (λ (y : Event). KeysRise (props_of y))) (sym c.requires.tells.told) (each_kept (λ (y : Event). KeysRise (props_of y)) (is_about x) (base_of c.args.store.now).events c.events-lawful.ensures.lawful.rising) in
+    let rise = rises c.args.store.now x us c.requires.tells c.events-lawful.ensures.lawful in
     record {
       within = omega (arith, some, within);
       rise = subst KeysRise (sym c.in_ok-put_earlier.ensures) (KeysRise-overwrite (named names (update_at us (c.loop-i.i - 1)).props) old c.loop-i.invariant.rise);
-      values = gathered_more x names (key_count c.args.store.now x) us c.args.to c.loop-i.i old c.requires.end rise c.loop-i.invariant.values new c.requires.tells.fits (omega (arith, some)) within (sym (c.if-is_deletion.ensures ∙ ap is_delete c.kind_at.ensures)) c.in_ok-put_earlier.ensures;
+      values = gathered_more x names us c.args.to c.loop-i.i old c.requires.end rise c.loop-i.invariant.values new c.requires.tells.fits (omega (arith, some)) within (sym (c.if-is_deletion.ensures ∙ ap is_delete c.kind_at.ensures)) c.in_ok-put_earlier.ensures;
     }
 
 pub returns-then-is_deletion-clause-values : goal.returns-then-is_deletion-clause-values
@@ -51,9 +58,8 @@ returns-then-is_deletion-clause-values c =
     let us = c.args.history.now.updates in
     let some = c.loop-i-test.true in
     let within = c.loop-i.invariant.within in
-    let rise : AllByRecursion (λ (y : Event). KeysRise (props_of y)) (events_told x names us) =
-    subst (AllByRecursion (λ (y : Event). KeysRise (props_of y))) (sym c.requires.tells.told) (each_kept (λ (y : Event). KeysRise (props_of y)) (is_about x) (base_of c.args.store.now).events c.events-lawful.ensures.lawful.rising) in
-    gathered_deleted x names (key_count c.args.store.now x) us c.args.to c.loop-i.i (props_borrowed c.loop-i.props.items) c.requires.end rise c.loop-i.invariant.values c.requires.tells.fits (omega (arith, some)) within (sym (c.if-is_deletion.ensures ∙ ap is_delete c.kind_at.ensures))
+    let rise = rises c.args.store.now x us c.requires.tells c.events-lawful.ensures.lawful in
+    gathered_deleted x names us c.args.to c.loop-i.i (props_borrowed c.loop-i.props.items) c.requires.end rise c.loop-i.invariant.values c.requires.tells.fits (omega (arith, some)) within (sym (c.if-is_deletion.ensures ∙ ap is_delete c.kind_at.ensures))
 
 pub returns-else-len-keys-clause-values : goal.returns-else-len-keys-clause-values
 returns-else-len-keys-clause-values c =
@@ -65,9 +71,8 @@ returns-else-len-keys-clause-values c =
     let len = c.len.ensures in
     let past = c.if-len-keys.false in
     let pairs : length (props_borrowed props) ≡ length props = length-map props (λ (p : Property). (p.key.now, p.value.now)) in
-    let rise : AllByRecursion (λ (y : Event). KeysRise (props_of y)) (events_told x names us) =
-    subst (AllByRecursion (λ (y : Event). KeysRise (props_of y))) (sym c.requires.tells.told) (each_kept (λ (y : Event). KeysRise (props_of y)) (is_about x) (base_of c.args.store.now).events c.events-lawful.ensures.lawful.rising) in
-    gathered_enough x names (key_count c.args.store.now x) us c.args.to c.loop-i.i (props_borrowed props) c.requires.end rise c.loop-i.invariant.values c.requires.keys (omega (arith, count, len, past, pairs))
+    let rise = rises c.args.store.now x us c.requires.tells c.events-lawful.ensures.lawful in
+    gathered_enough x names us c.args.to c.loop-i.i (props_borrowed props) c.requires.end rise c.loop-i.invariant.values (key_count c.args.store.now x) c.requires.keys (omega (arith, count, len, past, pairs))
 
 pub returns-after-loop-i-clause-values : goal.returns-after-loop-i-clause-values
 returns-after-loop-i-clause-values c =
@@ -75,6 +80,5 @@ returns-after-loop-i-clause-values c =
     let names = key_names_for c.args.store.now x in
     let us = c.args.history.now.updates in
     let past = c.loop-i-test.false in
-    let rise : AllByRecursion (λ (y : Event). KeysRise (props_of y)) (events_told x names us) =
-    subst (AllByRecursion (λ (y : Event). KeysRise (props_of y))) (sym c.requires.tells.told) (each_kept (λ (y : Event). KeysRise (props_of y)) (is_about x) (base_of c.args.store.now).events c.events-lawful.ensures.lawful.rising) in
-    gathered_all x names (key_count c.args.store.now x) us c.args.to c.loop-i.i (props_borrowed c.loop-i.props.items) c.requires.end rise c.loop-i.invariant.values (omega (arith, past))
+    let rise = rises c.args.store.now x us c.requires.tells c.events-lawful.ensures.lawful in
+    gathered_all x names us c.args.to c.loop-i.i (props_borrowed c.loop-i.props.items) c.requires.end rise c.loop-i.invariant.values (omega (arith, past))
