@@ -164,7 +164,7 @@ fn refused_events<L: Ledger>(
     refused(rt, alloc, &mut store, steps)
 }
 
-/// Edges from a to b in the layers L1 to L64, and what becomes of the last.
+/// Edges from a to b in 64 layers, and what becomes of the last.
 fn layered<L: Ledger>(
     alloc: Global,
     store: &mut Store,
@@ -172,7 +172,7 @@ fn layered<L: Ledger>(
 ) -> Result<&'static str, Fail> {
     let mut last = "nothing";
     for i in 1..65_u32 {
-        let layer = format!(in alloc; "L{i}")?;
+        let layer = format!(in alloc; "layer{i}")?;
         let edge = edge(alloc, "a", "b", layer.as_str())?;
         last = outcome(store, i as i64, What::Add(edge, Props::new(alloc)), steps);
     }
@@ -211,14 +211,17 @@ fn one_pair<L: Ledger>(
 ) -> Result<(), Fail> {
     assert_eq!(rt; layered(alloc, store, steps)?, "accepted");
     let more = [
-        ("add", 0, "a", "b", "L64", "7", "accepted"),
-        ("delete", 1, "a", "c", "L65", "", "deletion"),
-        ("add", 1, "a", "c", "L65", "x", "a number is kept"),
-        ("add", 1, "a", "c", "L65", "7", "layers"),
+        ("add", 0, "a", "b", "layer64", "7", "accepted"),
+        ("delete", 1, "a", "c", "layer65", "", "deletion"),
+        ("add", 1, "a", "c", "layer65", "x", "a number is kept"),
+        ("add", 1, "a", "c", "layer65", "7", "layers"),
     ];
     outcomes_are(rt, alloc, store, more.as_slice(), steps)?;
     assert_eq!(rt; counts(store), [65, 2, 64, 64, 1, 0, 1]);
-    assert_eq!(rt; known(alloc, store, "L65")?, [false, false, false, false]);
+    assert_eq!(rt;
+        known(alloc, store, "layer65")?,
+        [false, false, false, false]
+    );
     assert_eq!(rt; pairs_at(store, 0), [Some(PairId(0)), None, None, None]);
     assert_eq!(rt; pairs_at(store, 1), [None, None, Some(PairId(0)), None]);
     assert!(rt; has_edges(store, 0, 64));
