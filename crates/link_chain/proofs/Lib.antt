@@ -1,5 +1,6 @@
 pub mod ChainLaws
 pub mod BucketLaws
+mod NumberLaws
 mod ChainWalks
 mod ChainGrowth
 mod ChainResults

@@ -1,8 +1,9 @@
 //! Each call once, with lists worked by hand.
 ghost use Rattle.std.specs.Prelude.{◌≡◌, ◌<◌, length, IfOk};
 ghost use Rattle.link_chain.specs.Chains.{items_at};
+ghost use Rattle.link_chain.specs.NumberLists.{numbers_at};
 
-use crate::{Buckets, Chains, Memory};
+use crate::{Buckets, Chains, Memory, NumberLists};
 use std::alloc::Global;
 use std::test::Fail;
 
@@ -42,6 +43,50 @@ fn edges_of_pairs(rt: HostRuntime) -> Result<(), Fail> {
         [1].as_slice()
     );
     assert!(rt; items_of(rt.alloc(), &edges, ca)?.is_empty());
+    Ok(())
+}
+
+/// The numbers of a list, in order.
+fn numbers_of(alloc: Global, lists: &NumberLists, list: u32) -> Result<Vec<u32>, Memory>
+    requires { list < length lists.now.lists }
+    ensures { IfOk result (λ numbers. numbers.items ≡ numbers_at lists.now.lists list) }
+{
+    let mut numbers = Vec::new(alloc);
+    let mut walk = lists.walk(list);
+    while let Some(number) = walk.step() {
+        numbers.push(number)?;
+    }
+    Ok(numbers)
+}
+
+/// | List | Numbers            | Of these in a chain |
+/// |------|--------------------|---------------------|
+/// | 0    | none               | none                |
+/// | 1    | 10, 11, 12, 13, 14 | 13, 14              |
+/// | 2    | 20                 | none                |
+#[test]
+fn long_list_beside_short_ones(rt: HostRuntime) -> Result<(), Fail> {
+    let mut lists = NumberLists::new(rt.alloc());
+    lists.reserve(3, 6)?;
+    let none = lists.add_list();
+    let many = lists.add_list();
+    let one = lists.add_list();
+    assert_eq!(rt; (none, many, one), (0, 1, 2));
+    lists.append(many, 10);
+    lists.append(many, 11);
+    lists.append(one, 20);
+    lists.append(many, 12);
+    lists.append(many, 13);
+    lists.append(many, 14);
+    assert!(rt; numbers_of(rt.alloc(), &lists, none)?.is_empty());
+    assert_eq!(rt;
+        numbers_of(rt.alloc(), &lists, many)?.as_slice(),
+        [10, 11, 12, 13, 14].as_slice()
+    );
+    assert_eq!(rt;
+        numbers_of(rt.alloc(), &lists, one)?.as_slice(),
+        [20].as_slice()
+    );
     Ok(())
 }
 
