@@ -12,11 +12,11 @@ form_view (Few v) = record { items = v.items; spare = min (vec_capacity v) 8 - v
 form_view (Flat c) = record { items = c.value.items; spare = min c.value.spare (256 - length c.value.items) }
 form_view (Long l) = l.value
 
--- a list of few has at most eight items, and a flat one no more than a part
+-- a list of few has an item and at most eight, and a flat one no more than a part
 abbrev pub IsShort : {K V : Type 0} → Form K V → Type 0
 IsShort Empty = ⊤
 IsShort (One a) = ⊤
-IsShort (Few v) = vec_len v ≤ 8
+IsShort (Few v) = (0 < vec_len v) × (vec_len v ≤ 8)
 IsShort (Flat c) = length c.value.items ≤ 256
 IsShort (Long l) = ⊤
 

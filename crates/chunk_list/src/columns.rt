@@ -7,9 +7,10 @@ ghost use Rattle.std.specs.Map.{keys_of};
 use std::alloc::{AllocError, Global};
 use std::marker::Model;
 
-/// Makes room for one more item, and for half as many again, but for no more than `most` in all.
-pub(crate) fn reserve_block<T: Copy>(items: &mut Vec<T>, most: usize) -> Result<(), AllocError>
-    requires { vec_len items.old < most }
+/// Where there is no room for one more item, moves the items to a block with room for so many in all: a
+/// new block, since a block that is to grow in place reads the memory behind it, which is mostly cold.
+pub(crate) fn reserve_block<T: Copy>(items: &mut Vec<T>, room: usize) -> Result<(), AllocError>
+    requires { vec_len items.old < room }
     ensures items { items.new.items ≡ items.old.items }
     ensures len { vec_len items.new ≡ vec_len items.old }
     ensures room { OnOk result (vec_len items.new < vec_capacity items.new) }
@@ -17,11 +18,13 @@ pub(crate) fn reserve_block<T: Copy>(items: &mut Vec<T>, most: usize) -> Result<
     ensures free { vec_len items.old < vec_capacity items.old → IsOk result }
     ensures err { OnErr result (vec_capacity items.new ≡ vec_capacity items.old) }
 {
-    let len = items.len();
-    if len < items.capacity() {
+    if items.len() < items.capacity() {
         return Ok(());
     }
-    items.reserve_exact((len / 2 + 1).min(most - len))
+    let mut larger = Vec::with_capacity(*items.allocator(), room)?;
+    append_from(&mut larger, items.as_slice(), 0);
+    *items = larger;
+    Ok(())
 }
 
 /// Appends the items of a slice from a place on, where there is room for them.
@@ -104,8 +107,10 @@ impl<K: Copy, V: Copy> Columns<K, V> {
         ensures free { 0 < self.old.spare → IsOk result }
         ensures err { OnErr result (self.new ≡ self.old) }
     {
-        reserve_block(&mut self.keys, most)?;
-        reserve_block(&mut self.besides, most)
+        let len = self.keys.len();
+        let room = (len + len / 2 + 1).min(most);
+        reserve_block(&mut self.keys, room)?;
+        reserve_block(&mut self.besides, room)
     }
 
     /// Puts an item before the one at a place, where there is room for it.

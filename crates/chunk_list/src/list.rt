@@ -195,7 +195,10 @@ impl<K: Copy + Default, V: Copy + Default> ChunkList<K, V> {
             return Ok(());
         }
         match &mut self.form {
-            Form::Few(items) => reserve_block(items, FEW),
+            Form::Few(items) => {
+                let room = (2 * items.len()).min(FEW);
+                reserve_block(items, room)
+            }
             Form::Flat(columns) => columns.reserve(MOST),
             Form::Long(long) => long.reserve(),
             _ => Ok(()),
