@@ -3,3 +3,4 @@ pub mod Pairing
 pub mod Sums
 pub mod Middles
 pub mod Lookups
+pub mod Lasts

@@ -1,5 +1,5 @@
 -- How a list that grows lies in memory.
-use Rattle.std.specs.Prelude.{◌-◌, ◌≤◌, ◌<◌, ◌≡◌, ⊤, [], ◌∷◌, length, min, vec_len, vec_capacity}
+use Rattle.std.specs.Prelude.{◌-◌, ◌≤◌, ◌<◌, ◌≡◌, ⊤, [], ◌∷◌, length, min}
 use Rattle.chunk_list.specs.declared.list.Form.{Form}
 use Rattle.chunk_list.specs.declared.list.Form.TheVariants.{Empty, One, Few, Flat, Long}
 use Rattle.chunk_list.specs.Spaced.{Spaced}
@@ -8,15 +8,15 @@ use Rattle.chunk_list.specs.Spaced.{Spaced}
 abbrev pub form_view : {K V : Type 0} → Form K V → Spaced (K × V)
 form_view Empty = record { items = []; spare = 1 }
 form_view (One a) = record { items = a ∷ []; spare = 0 }
-form_view (Few v) = record { items = v.items; spare = min (vec_capacity v) 8 - vec_len v }
+form_view (Few f) = record { items = f.items; spare = min f.spare (8 - length f.items) }
 form_view (Flat c) = record { items = c.value.items; spare = min c.value.spare (256 - length c.value.items) }
 form_view (Long l) = l.value
 
--- a list of few has an item and at most eight, and a flat one no more than a part
+-- a list of few has at most eight items, and a flat one no more than a part
 abbrev pub IsShort : {K V : Type 0} → Form K V → Type 0
 IsShort Empty = ⊤
 IsShort (One a) = ⊤
-IsShort (Few v) = (0 < vec_len v) × (vec_len v ≤ 8)
+IsShort (Few f) = length f.items ≤ 8
 IsShort (Flat c) = length c.value.items ≤ 256
 IsShort (Long l) = ⊤
 
@@ -24,7 +24,7 @@ IsShort (Long l) = ⊤
 abbrev pub TakesMore : {K V : Type 0} → Form K V → Type 0
 TakesMore Empty = ⊤
 TakesMore (One a) = ⊥
-TakesMore (Few v) = vec_len v < 8
+TakesMore (Few f) = length f.items < 8
 TakesMore (Flat c) = length c.value.items < 256
 TakesMore (Long l) = ⊤
 

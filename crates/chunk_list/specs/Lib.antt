@@ -4,3 +4,4 @@ pub mod Long
 pub mod Form
 pub mod Groups
 pub mod Middle
+pub mod Few

@@ -3,6 +3,7 @@
 #![tactic(auto)]
 
 mod columns;
+mod few;
 mod list;
 mod long;
 mod near;

@@ -4,15 +4,13 @@ ghost use Rattle.std.specs.List.{insert};
 ghost use Rattle.chunk_list.specs.Middle.{IsMiddle};
 ghost use Rattle.std.specs.Map.{keys_of};
 
-use crate::columns::{Columns, reserve_block};
+use crate::columns::Columns;
+use crate::few::{FEW, Few};
 use crate::long::Long;
 use crate::near::{Near, exact_middle};
 use crate::part::MOST;
 use std::alloc::{AllocError, Global};
 use std::marker::Model;
-
-/// How many items lie whole in one block.
-const FEW: usize = 8;
 
 /// How the items lie in memory.
 #[derive(Drop)]
@@ -20,7 +18,7 @@ enum Form<K: Copy + Default, V: Copy + Default> {
     Empty,
     One((K, V)),
     /// At most `FEW`.
-    Few(Vec<(K, V)>),
+    Few(Few<K, V>),
     /// At most as many as a part takes, the keys in one block and what stands beside them in another.
     Flat(Box<Columns<K, V>>),
     /// The keys in parts, and what stands beside them in the order in which it came.
@@ -29,11 +27,11 @@ enum Form<K: Copy + Default, V: Copy + Default> {
 
 /// A list of items, each a key and what stands beside it, that takes insertions at any place. A contract
 /// sees its items, and how many more it takes without memory. One item takes no memory of its own, and up
-/// to 8 lie whole in one block. The keys of a longer list lie side by side, and what stands beside them
-/// lies apart. The keys of more than 256 items lie in parts of at most 256, and a part that is full is
-/// split in two: each key lies there with the place of what stands beside it, which lies in the order in
-/// which it came, so that an insertion moves keys and places alone. There is no room for more than
-/// 4 294 967 296 items.
+/// to 8 lie whole in one block, while their last key lies in the list itself too. The keys of a longer list
+/// lie side by side, and what stands beside them lies apart. The keys of more than 256 items lie in parts of
+/// at most 256, and a part that is full is split in two: each key lies there with the place of what stands
+/// beside it, which lies in the order in which it came, so that an insertion moves keys and places alone.
+/// There is no room for more than 4 294 967 296 items.
 #[derive(Drop)]
 pub struct ChunkList<K: Copy + Default, V: Copy + Default> {
     form: Form<K, V>,
@@ -96,13 +94,9 @@ fn next_form<K: Copy + Default, V: Copy + Default>(
     ensures free { 0 < (form_view form.now).spare → IsOk result }
 {
     match form {
-        Form::One(first) => {
-            let mut items = Vec::with_capacity(alloc, 2)?;
-            items.push(*first)?;
-            Ok(Some(Form::Few(items)))
-        }
-        Form::Few(items) if items.len() == FEW => {
-            let columns = columns_of(alloc, items.as_slice())?;
+        Form::One(first) => Ok(Some(Form::Few(Few::new(alloc, *first)?))),
+        Form::Few(few) if few.len() == FEW => {
+            let columns = columns_of(alloc, few.as_slice())?;
             Ok(Some(Form::Flat(Box::new(alloc, columns)?)))
         }
         Form::Flat(columns) if columns.len() == MOST => Ok(Some(long_form(alloc, columns)?)),
@@ -128,7 +122,7 @@ impl<K: Copy + Default, V: Copy + Default> ChunkList<K, V> {
         match &self.form {
             Form::Empty => 0,
             Form::One(_) => 1,
-            Form::Few(items) => items.len(),
+            Form::Few(few) => few.len(),
             Form::Flat(columns) => columns.len(),
             Form::Long(long) => long.len(),
         }
@@ -142,7 +136,7 @@ impl<K: Copy + Default, V: Copy + Default> ChunkList<K, V> {
         match &self.form {
             Form::Empty => (K::default(), V::default()),
             Form::One(item) => *item,
-            Form::Few(items) => items[i],
+            Form::Few(few) => few.get(i),
             Form::Flat(columns) => columns.get(i),
             Form::Long(long) => long.get(i, near),
         }
@@ -157,7 +151,7 @@ impl<K: Copy + Default, V: Copy + Default> ChunkList<K, V> {
         match &self.form {
             Form::Empty => K::default(),
             Form::One(item) => item.0,
-            Form::Few(items) => items[i].0,
+            Form::Few(few) => few.key(i),
             Form::Flat(columns) => columns.key(i),
             Form::Long(long) => long.key(i, near),
         }
@@ -195,10 +189,7 @@ impl<K: Copy + Default, V: Copy + Default> ChunkList<K, V> {
             return Ok(());
         }
         match &mut self.form {
-            Form::Few(items) => {
-                let room = (2 * items.len()).min(FEW);
-                reserve_block(items, room)
-            }
+            Form::Few(few) => few.reserve(),
             Form::Flat(columns) => columns.reserve(MOST),
             Form::Long(long) => long.reserve(),
             _ => Ok(()),
@@ -213,12 +204,10 @@ impl<K: Copy + Default, V: Copy + Default> ChunkList<K, V> {
         ensures spare { self.old.spare ≤ self.new.spare + 1 }
     {
         match &mut self.form {
-            Form::Few(items) => {
-                let _ = items.insert(i, item);
-            }
+            Form::Few(few) => few.put(i, item),
             Form::Flat(columns) => columns.put(i, item),
             Form::Long(long) => long.put(i, item),
-            few => *few = Form::One(item),
+            form => *form = Form::One(item),
         }
     }
 }
