@@ -1,5 +1,6 @@
 //! A list of which most have one item.
-ghost use Rattle.std.specs.Prelude.{◌≡◌, ◌+◌, ◌<◌, ◌≤◌, [], ◌∷◌, ◌++◌, length, slice_index_or, OnOk, OnErr, IsOk};
+ghost use Rattle.std.specs.Prelude.{◌≡◌, ◌+◌, ◌^◌, ◌<◌, ◌≤◌, [], ◌∷◌, ◌++◌, length, slice_index_or, vec_len, OnOk, OnErr, IsOk};
+ghost use Rattle.std.specs.Vec.{vec_capacity};
 
 use std::alloc::{AllocError, Global};
 use std::marker::Model;
@@ -11,6 +12,34 @@ enum Form<T> {
     Nothing,
     One(T),
     Many(Vec<T>),
+}
+
+/// Up to so many items move to a new block where theirs is full.
+const SHORT: usize = 64;
+
+/// Makes room for so many more items. A short list moves to a block with room for at least as many
+/// again: to let a small block grow where it lies is slower, since what lies behind it is looked at
+/// first.
+fn reserve_more<T: Drop>(
+    alloc: Global,
+    items: &mut Vec<T>,
+    additional: usize,
+) -> Result<(), AllocError>
+    requires { additional < 2 ^ 32 }
+    ensures items { items.new.items ≡ items.old.items }
+    ensures room { OnOk result (vec_len items.new + additional ≤ vec_capacity items.new) }
+    ensures capacity { vec_capacity items.old ≤ vec_capacity items.new }
+    ensures free { vec_len items.old + additional ≤ vec_capacity items.old → IsOk result }
+    ensures err { OnErr result (vec_capacity items.new ≡ vec_capacity items.old) }
+{
+    let len = items.len();
+    if len > SHORT || len + additional <= items.capacity() {
+        return items.reserve(additional);
+    }
+    let mut larger = Vec::with_capacity(alloc, len + additional.max(len))?;
+    let _ = larger.append(items);
+    *items = larger;
+    Ok(())
 }
 
 /// A list that grows at its end. One item lies in the list itself, and more lie in one block beside
@@ -81,7 +110,7 @@ impl<T: Drop> Few<T> {
         ensures err { OnErr result (self.new ≡ self.old) }
     {
         if let Form::Many(items) = &mut self.form {
-            return items.reserve(additional as usize);
+            return reserve_more(self.alloc, items, additional as usize);
         }
         let wanted = self.len() + additional as usize;
         if wanted <= 1 {
