@@ -1,9 +1,10 @@
 pub mod ChainLaws
 pub mod BucketLaws
-mod NumberLaws
+pub mod NumberLaws
 mod ChainWalks
 mod ChainGrowth
 mod ChainResults
 mod BucketRuns
 mod BucketMoves
 mod BucketResults
+mod NumberResults

@@ -1,6 +1,6 @@
 use Rattle.std.proofs.Common.{◌≡◌, ◌<◌, ◌-◌, ◌++◌, ◌∷◌, [], length, min, vec_len, vec_capacity, ap, sym, subst, arith}
 use Rattle.link_chain.specs.NumberLists.{ListsOfNumbers}
-use Rattle.link_chain.proofs.NumberLaws.{IsNow, length-numbers_from, list_added, sure}
+use Rattle.link_chain.proofs.NumberResults.{IsNow, length-numbers_from, list_added, sure}
 use Rattle.link_chain.proofs.number_lists.NumberLists.add_list.Goals as goal
 
 pub overflow_cast-list : goal.overflow_cast-list

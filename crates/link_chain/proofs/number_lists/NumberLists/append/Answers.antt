@@ -1,7 +1,7 @@
 use Rattle.std.proofs.Common.{◌<◌, ◌++◌, ◌∷◌, [], length, ap, sym, ◌∙◌, subst, arith}
 use Rattle.std.proofs.lemmas.List.{length-set}
 use Rattle.link_chain.specs.NumberLists.{ListsOfNumbers, numbers_at}
-use Rattle.link_chain.proofs.NumberLaws.{list_within, first_appended, chain_appended, sure}
+use Rattle.link_chain.proofs.NumberResults.{list_within, first_appended, chain_appended, sure}
 use Rattle.link_chain.proofs.number_lists.NumberLists.append.Goals as goal
 
 pub index-firsts-requires : goal.index-firsts-requires

@@ -1,6 +1,6 @@
 use Rattle.std.proofs.Common.{ap, ◌∙◌, arith}
 use Rattle.link_chain.specs.NumberLists.{ListsOfNumbers}
-use Rattle.link_chain.proofs.NumberLaws.{list_within, walked_full, walked_firsts}
+use Rattle.link_chain.proofs.NumberResults.{list_within, walked_full, walked_firsts}
 use Rattle.link_chain.proofs.number_lists.NumberLists.walk.Goals as goal
 use Rattle.link_chain.proofs.number_lists.NumberLists.walk.Goals.{then-is_full, else-is_full}
 
