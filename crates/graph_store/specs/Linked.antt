@@ -7,7 +7,7 @@ use Rattle.graph_store.specs.Places.{places}
 use Rattle.graph_store.specs.Ends.{same_ends, ends_at}
 use Rattle.graph_store.specs.Parts.{same_parts, ends_of, parts_at, parts_in_layer}
 use Rattle.graph_store.specs.Paired.{Paired}
-use Rattle.link_chain.specs.Chains.{items_at, link_count}
+use Rattle.link_chain.specs.NumberLists.{numbers_at}
 
 -- how many nodes there are, the edges and the pairs in the order of their numbers, and how many more nodes and edges need no memory
 pub record Linked : Type 0 where
@@ -21,15 +21,15 @@ pub record Linked : Type 0 where
 abbrev pub edges_between : List EdgeParts → Ends → List ℕ
 edges_between edges ends = places (λ (e : EdgeParts). same_ends ends (ends_of e)) edges
 
--- the edges are distinct, their ends are the pairs, and one chain for each pair has its edges
-pub record AreLinked (edges : List EdgeParts) (paired : Paired) (chains : List (List (ℕ × ℕ))) : Type 0 where
+-- the edges are distinct, their ends are the pairs, and one list for each pair has its edges, of which some stand with links
+pub record AreLinked (edges : List EdgeParts) (paired : Paired) (lists : List (List ℕ)) (linked : ℕ) : Type 0 where
   pub few : length edges < 2 ^ 32
   pub once : IsDistinct same_parts edges
   pub few_pairs : length paired.pairs ≤ length edges
-  pub heads : length chains ≡ length paired.pairs
-  pub links : link_count chains ≡ length edges
+  pub own : length lists ≡ length paired.pairs
+  pub few_links : linked ≤ length edges
   pub known : (ends : Ends) → list_any (same_ends ends) paired.pairs ≡ list_any (λ (e : EdgeParts). same_ends ends (ends_of e)) edges
-  pub between : (pair : ℕ) → pair < length paired.pairs → items_at chains pair ≡ edges_between edges (ends_at paired.pairs pair)
+  pub between : (pair : ℕ) → pair < length paired.pairs → numbers_at lists pair ≡ edges_between edges (ends_at paired.pairs pair)
   pub within : (e : ℕ) → e < length edges → ((parts_at edges e).src < paired.nodes) × ((parts_at edges e).dst < paired.nodes)
 
 -- the edges, by the numbers of their pairs and their layers

@@ -2,15 +2,13 @@
 ghost use Rattle.std.specs.Prelude.{◌≡◌, ℕ, ◌+◌, ◌-◌, ◌^◌, ◌<◌, ◌≤◌, List, [], ◌∷◌, ◌++◌, Some, is_some, false, if◌then◌else◌, position, length, slice_get, OnOk};
 ghost use Rattle.std.specs.List.{AllByRecursion, IsDistinct, find, list_any};
 ghost use Rattle.indexmap.specs.IndexSet.{insert_key};
-ghost use Rattle.link_chain.specs.Chains.{link_count, items_at};
 ghost use Rattle.graph_store.specs.Ends.{same_ends, ends_at};
 ghost use Rattle.graph_store.specs.Parts.{is_in};
 ghost use Rattle.graph_store.specs.Paired.{pairs_from, pairs_to};
 
 use crate::pairs::{Ends, PairTable};
-use crate::walks::LinkWalk;
 use graph_model::Memory;
-use link_chain::Chains;
+use link_chain::{ChainWalk, NumberLists, NumberWalk};
 use std::alloc::Global;
 use std::marker::Model;
 
@@ -50,18 +48,18 @@ impl EdgeParts {
     }
 }
 
-/// Distinct edges between numbered nodes, and their pairs. An edge stands in the chain of its pair,
-/// so a walk over the edges of a pair takes no memory, and an edge is found along the chain of its
-/// pair, which has one for each layer at the most.
+/// Distinct edges between numbered nodes, and their pairs. An edge stands in the list of its pair,
+/// so a walk over the edges of a pair takes no memory, and an edge is found along the list of its
+/// pair, which has one for each layer at the most. The first three lie side by side.
 ///
-/// An edge lies there as the number of its pair and its layer, in 5 bytes beside a link of 8, since its
-/// ends are those of the pair.
+/// An edge lies here as the number of its pair and its layer, in 5 bytes, since its ends are those of
+/// the pair.
 #[derive(Drop)]
 pub struct EdgeTable {
     pair_of: Vec<u32>,
     layer_of: Vec<u8>,
     pairs: PairTable,
-    of_pair: Chains,
+    of_pair: NumberLists,
 }
 
 impl Model for EdgeTable {
@@ -75,27 +73,28 @@ impl Model for EdgeTable {
       edges = edges_from t.pairs.pairs t.pair_of.items t.layer_of.items;
       pairs = t.pairs.pairs;
       spare_nodes = t.pairs.spare_nodes;
-      spare_edges = min (min (min (vec_capacity t.pair_of - vec_len t.pair_of) (vec_capacity t.layer_of - vec_len t.layer_of)) t.pairs.spare_pairs) (min t.of_pair.spare_heads t.of_pair.spare_links);
+      spare_edges = min (min (min (vec_capacity t.pair_of - vec_len t.pair_of) (vec_capacity t.layer_of - vec_len t.layer_of)) t.pairs.spare_pairs) (min t.of_pair.spare_lists t.of_pair.spare_links);
     } };
 
-    ghost invariant = { λ t. AreHeld t.pairs.pairs t.pair_of.items t.layer_of.items × AreLinked (edges_from t.pairs.pairs t.pair_of.items t.layer_of.items) t.pairs t.of_pair.lists };
+    ghost invariant = { λ t. AreHeld t.pairs.pairs t.pair_of.items t.layer_of.items × AreLinked (edges_from t.pairs.pairs t.pair_of.items t.layer_of.items) t.pairs t.of_pair.lists t.of_pair.links };
 }
 
 /// The number of a pair, which is new or known.
-fn number_of_pair(pairs: &mut PairTable, of_pair: &mut Chains, ends: Ends) -> u32
+fn number_of_pair(pairs: &mut PairTable, of_pair: &mut NumberLists, ends: Ends) -> u32
     requires src { ends.src < pairs.old.nodes }
     requires dst { ends.dst < pairs.old.nodes }
-    requires heads { length of_pair.old.lists ≡ length pairs.old.pairs }
+    requires lists { length of_pair.old.lists ≡ length pairs.old.pairs }
     requires few { length pairs.old.pairs < 2 ^ 32 - 1 }
     requires room { 0 < pairs.old.spare_pairs }
-    requires head_room { 0 < of_pair.old.spare_heads }
+    requires list_room { 0 < of_pair.old.spare_lists }
     ensures nodes { pairs.new.nodes ≡ pairs.old.nodes }
     ensures pairs { pairs.new.pairs ≡ insert_key same_ends pairs.old.pairs ends }
     ensures within { result < length pairs.new.pairs }
     ensures number { ends_at pairs.new.pairs result ≡ ends }
-    ensures chains { of_pair.new.lists ≡ (if list_any (same_ends ends) pairs.old.pairs then of_pair.old.lists else of_pair.old.lists ++ [] ∷ []) }
+    ensures lists { of_pair.new.lists ≡ (if list_any (same_ends ends) pairs.old.pairs then of_pair.old.lists else of_pair.old.lists ++ [] ∷ []) }
     ensures distinct { IsDistinct same_ends pairs.new.pairs }
     ensures spare_nodes { pairs.old.spare_nodes ≤ pairs.new.spare_nodes }
+    ensures links { of_pair.new.links ≡ of_pair.old.links }
     ensures spare_links { of_pair.new.spare_links ≡ of_pair.old.spare_links }
 {
     let _count = pairs.len();
@@ -103,13 +102,13 @@ fn number_of_pair(pairs: &mut PairTable, of_pair: &mut Chains, ends: Ends) -> u3
         return pair;
     }
     let pair = pairs.add(ends);
-    let _ = of_pair.add_head();
+    let _ = of_pair.add_list();
     let _count = pairs.len();
     pair
 }
 
 /// The first edge of a walk that is in a layer.
-fn first_in_layer(layers: &[u8], mut edges: LinkWalk<'_>, layer: u8) -> Option<u32>
+fn first_in_layer(layers: &[u8], mut edges: NumberWalk<'_>, layer: u8) -> Option<u32>
     requires { AllByRecursion (λ e. e < length layers.now) edges }
     ensures { result ≡ find (is_in layers.now layer) edges.entry }
 {
@@ -135,7 +134,7 @@ impl EdgeTable {
             pair_of: Vec::new(alloc),
             layer_of: Vec::new(alloc),
             pairs: PairTable::new(alloc),
-            of_pair: Chains::new(alloc),
+            of_pair: NumberLists::new(alloc),
         }
     }
 
@@ -239,12 +238,12 @@ impl EdgeTable {
         let pair = number_of_pair(&mut self.pairs, &mut self.of_pair, parts.ends());
         self.pair_of.push_reserved(pair);
         self.layer_of.push_reserved(parts.layer);
-        let _ = self.of_pair.append(pair, edge);
+        self.of_pair.append(pair, edge);
         edge
     }
 
     /// The pairs that begin at a node.
-    pub fn begin_at(&self, node: u32) -> LinkWalk<'_>
+    pub fn begin_at(&self, node: u32) -> ChainWalk<'_>
         requires { node < self.now.nodes }
         ensures { result ≡ pairs_from self.now.pairs node }
     {
@@ -252,7 +251,7 @@ impl EdgeTable {
     }
 
     /// The pairs that end at a node.
-    pub fn end_at(&self, node: u32) -> LinkWalk<'_>
+    pub fn end_at(&self, node: u32) -> ChainWalk<'_>
         requires { node < self.now.nodes }
         ensures { result ≡ pairs_to self.now.pairs node }
     {
@@ -260,10 +259,10 @@ impl EdgeTable {
     }
 
     /// The edges of a pair.
-    pub fn edges_of(&self, pair: u32) -> LinkWalk<'_>
+    pub fn edges_of(&self, pair: u32) -> NumberWalk<'_>
         requires { pair < length self.now.pairs }
         ensures { result ≡ edges_between self.now.edges (ends_at self.now.pairs pair) }
     {
-        LinkWalk::along(&self.of_pair, pair)
+        self.of_pair.walk(pair)
     }
 }

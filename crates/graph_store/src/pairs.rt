@@ -3,10 +3,9 @@ ghost use Rattle.std.specs.Prelude.{◌≡◌, ℕ, ◌+◌, ◌-◌, ◌^◌, �
 ghost use Rattle.std.specs.List.{IsDistinct, list_any};
 ghost use Rattle.graph_store.specs.Paired.{pairs_from, pairs_to};
 
-use crate::walks::LinkWalk;
 use graph_model::Memory;
 use indexmap::IndexSet;
-use link_chain::Chains;
+use link_chain::{ChainWalk, Chains};
 use std::alloc::Global;
 use std::marker::Model;
 
@@ -144,18 +143,18 @@ impl PairTable {
     }
 
     /// The pairs that begin at a node.
-    pub fn begin_at(&self, node: u32) -> LinkWalk<'_>
+    pub fn begin_at(&self, node: u32) -> ChainWalk<'_>
         requires { node < self.now.nodes }
         ensures { result ≡ pairs_from self.now.pairs node }
     {
-        LinkWalk::along(&self.outward, node)
+        ChainWalk::along(&self.outward, node)
     }
 
     /// The pairs that end at a node.
-    pub fn end_at(&self, node: u32) -> LinkWalk<'_>
+    pub fn end_at(&self, node: u32) -> ChainWalk<'_>
         requires { node < self.now.nodes }
         ensures { result ≡ pairs_to self.now.pairs node }
     {
-        LinkWalk::along(&self.inward, node)
+        ChainWalk::along(&self.inward, node)
     }
 }
