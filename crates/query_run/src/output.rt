@@ -25,6 +25,7 @@ use graph_model::{Memory, Model, Query};
 use graph_store::Store;
 use query_script::read_query;
 use std::alloc::{AllocError, Global};
+use std::mem::forget;
 use std::sync::ledger::Ledger;
 use time_column::Steps;
 
@@ -177,5 +178,9 @@ pub fn answer_files<L: Ledger>(
     ensures cost { IsTrue (is_counted_script model script.now) → steps.new ≤ steps.old + counted_steps model events.now script.now }
 {
     let read = read_events(alloc, model, events, steps)?;
-    answer_read(alloc, &read, script, steps)
+    let answer = answer_read(alloc, &read, script, steps);
+    // A run ends with its answer, and the system takes the memory of the process back at once: the store is not
+    // given back block by block.
+    forget(read);
+    answer
 }
