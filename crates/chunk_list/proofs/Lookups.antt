@@ -2,9 +2,10 @@
 use Rattle.std.proofs.Common.{◌≡◌, ℕ, zero, suc, ◌+◌, ◌<◌, ◌≤◌, List, [], ◌∷◌, ◌++◌, length, get_or, map, take, refl, sym, ap, ◌∙◌, arith}
 use Rattle.std.specs.List.{insert, All}
 use Rattle.std.specs.Map.{keys_of}
-use Rattle.std.proofs.lemmas.List.{get_or_append_left, get_or_push, length-map, take_more}
+use Rattle.std.proofs.lemmas.List.{get_or_append_left, get_or_push, get_or-map, get_or_default, length-map, length-take, take_more, take-map, map_more}
 use Rattle.std.proofs.lemmas.List.Edits.{insert_end}
 use Rattle.std.proofs.lemmas.List.Elements.{All-cons, All-head, All-tail}
+use Rattle.chunk_list.specs.Besides.{besides_of}
 use Rattle.chunk_list.specs.Long.{looked_up, AreBelow}
 
 map-insert : {X Y : Type 0} (f : X → Y) (xs : List X) (i : ℕ) (x : X) → i ≤ length xs → map f (insert xs i x) ≡ insert (map f xs) i (f x)
@@ -55,7 +56,7 @@ looked_up-insert {K} {V} (w ∷ vs) ps i k v h le =
     ∙ (ap (λ xs. insert xs i (new (k, n))) kept ∙ ap (λ x. insert (map old ps) i (k, x)) (get_or_push (w ∷ vs) v w n refl))
 
 -- one more of the items of a list, in turn
-pub looked_up-more : {K V : Type 0} (vs ws : List V) (ps qs : List (K × ℕ)) (xs : List (K × V)) (i : ℕ) (k : K) (v : V) → looked_up vs ps ≡ take i xs → length ps ≡ i → length vs ≡ i → AreBelow i ps → i < length xs → (k, v) ≡ get_or xs i (k, v)
+looked_up-more : {K V : Type 0} (vs ws : List V) (ps qs : List (K × ℕ)) (xs : List (K × V)) (i : ℕ) (k : K) (v : V) → looked_up vs ps ≡ take i xs → length ps ≡ i → length vs ≡ i → AreBelow i ps → i < length xs → (k, v) ≡ get_or xs i (k, v)
     → qs ≡ insert ps i (k, i) → ws ≡ vs ++ v ∷ [] → looked_up ws qs ≡ take (i + 1) xs
 looked_up-more {K} {V} vs ws ps qs xs i k v e many long below lt x q w =
     let within : AreBelow (length vs) ps = λ j d l. omega (arith, below j d l) in
@@ -64,3 +65,29 @@ looked_up-more {K} {V} vs ws ps qs xs i k v e many long below lt x q w =
     ∙ (ap (λ ys. looked_up (vs ++ v ∷ []) ys) (q ∙ ap (λ n. insert ps i (k, n)) (sym long))
     ∙ (looked_up-insert vs ps i k v within (omega arith)
     ∙ (ap (λ ys. insert ys i (k, v)) e ∙ (ap (λ n. insert (take i xs) n (k, v)) (sym short) ∙ (insert_end (take i xs) (k, v) ∙ (ap (λ y. take i xs ++ y ∷ []) x ∙ sym (take_more xs i (k, v) lt)))))))
+
+-- one more place of the items of a list, in turn
+pub looked_up-next : {K V : Type 0} (ps qs : List (K × ℕ)) (xs : List (K × V)) (i : ℕ) (k : K) → looked_up (take i (besides_of xs)) ps ≡ take i xs → length ps ≡ i → AreBelow i ps → i < length xs → k ≡ get_or (keys_of xs) i k
+    → qs ≡ insert ps i (k, i) → looked_up (take (i + 1) (besides_of xs)) qs ≡ take (i + 1) xs
+looked_up-next ps qs [] i k e long below lt f q = absurd (omega arith)
+looked_up-next {K} {V} ps qs (x ∷ xs) i k e long below lt f q =
+    let all = x ∷ xs in
+    let second : K × V → V = λ p. p.1 in
+    let v = second (get_or all i x) in
+    let item : (k, v) ≡ get_or all i (k, v) = ap (λ a. (a, v)) (f ∙ get_or-map (λ (p : K × V). p.0) all i x k lt) ∙ get_or_default all i x (k, v) lt in
+    let many : length (take i (besides_of all)) ≡ i = omega (arith, length-take i (besides_of all), length-map all second, lt) in
+    let more : take (i + 1) (besides_of all) ≡ take i (besides_of all) ++ v ∷ [] = take-map second (i + 1) all ∙ (map_more second all i x lt ∙ ap (λ ys. ys ++ v ∷ []) (sym (take-map second i all))) in
+    looked_up-more (take i (besides_of all)) (take (i + 1) (besides_of all)) ps qs all i k v e long many below lt item q more
+
+-- what stands beside the key at a place
+pub beside-looked_up : {K V : Type 0} (vs : List V) (ps : List (K × ℕ)) (i : ℕ) (k : K) (n : ℕ) (v : V) → AreBelow (length vs) ps → i < length ps → (k, n) ≡ get_or ps i (k, n) → v ≡ get_or vs n v → v ≡ get_or (besides_of (looked_up vs ps)) i v
+beside-looked_up [] ps i k n v h lt e f = absurd (omega (arith, ap length (none_below ps h)))
+beside-looked_up {K} {V} (w ∷ vs) ps i k n v h lt e f =
+    let all = w ∷ vs in
+    let look : K × ℕ → K × V = λ p. (p.0, get_or all p.1 w) in
+    let second : K × V → V = λ p. p.1 in
+    let place : n ≡ (get_or ps i (k, n)).1 = ap (λ (p : K × ℕ). p.1) e in
+    let within : n < length all = omega (arith, h i (k, n) lt, place) in
+    f ∙ (get_or_default all n v w within
+    ∙ (ap (λ m. get_or all m w) place
+    ∙ (sym (ap second (get_or-map look ps i (k, n) (k, w) lt)) ∙ sym (get_or-map second (map look ps) i (k, w) v (omega (arith, length-map ps look, lt))))))

@@ -2,8 +2,9 @@
 use Rattle.std.proofs.Common.{◌≡◌, ℕ, zero, suc, ◌+◌, ◌-◌, ◌<◌, ◌≤◌, List, [], ◌∷◌, ◌++◌, length, get_or, map, take, drop, refl, sym, ap, ◌∙◌, arith}
 use Rattle.std.specs.List.{insert, zip}
 use Rattle.std.proofs.lemmas.List.{get_or-map}
-use Rattle.std.proofs.lemmas.Slice.Zip.{length-zip, firsts-zip, get_or-zip}
+use Rattle.std.proofs.lemmas.Slice.Zip.{length-zip, firsts-zip, seconds-zip, get_or-zip}
 use Rattle.std.specs.Map.{keys_of}
+use Rattle.chunk_list.specs.Besides.{besides_of}
 use Rattle.chunk_list.specs.Parts.{joined, part_at, starts}
 use Rattle.chunk_list.proofs.Joined.{item_at}
 
@@ -50,6 +51,14 @@ pair_at ks vs ps i k v e p lt f g =
 -- the key at a place
 pub key_at : {K V : Type 0} (ks : List K) (vs : List V) (ps : List (K × V)) (i : ℕ) (k : K) → length vs ≡ length ks → zip ks vs ≡ ps → k ≡ get_or ks i k → k ≡ get_or (keys_of ps) i k
 key_at ks vs ps i k e p f = f ∙ (ap (λ xs. get_or xs i k) (sym (firsts-zip ks vs e)) ∙ ap (λ xs. get_or (keys_of xs) i k) p)
+
+-- what stands beside the key at a place
+pub beside_at : {K V : Type 0} (ks : List K) (vs : List V) (ps : List (K × V)) (i : ℕ) (v : V) → length vs ≡ length ks → zip ks vs ≡ ps → v ≡ get_or vs i v → v ≡ get_or (besides_of ps) i v
+beside_at ks vs ps i v e p f = f ∙ (ap (λ xs. get_or xs i v) (sym (seconds-zip ks vs e)) ∙ ap (λ xs. get_or (besides_of xs) i v) p)
+
+-- what stands beside the keys of all pairs
+pub all_besides : {K V : Type 0} (ks : List K) (vs : List V) (ps : List (K × V)) → length vs ≡ length ks → zip ks vs ≡ ps → vs ≡ besides_of ps
+all_besides ks vs ps e p = sym (seconds-zip ks vs e) ∙ ap besides_of p
 
 -- two lists that agree at a place each agree there in what is made of their items
 pub map_same : {X Y : Type 0} (f : X → Y) (xs ys : List X) (i j : ℕ) (e : Y) → i < length xs → j < length ys → ((d : X) → get_or xs i d ≡ get_or ys j d) → get_or (map f xs) i e ≡ get_or (map f ys) j e

@@ -1,7 +1,9 @@
+pub mod Besides
 pub mod Spaced
 pub mod Parts
 pub mod Long
 pub mod Form
+pub mod Wide
 pub mod Groups
 pub mod Middle
 pub mod Few

@@ -3,13 +3,14 @@ ghost use Rattle.std.specs.Prelude.{◌≡◌, ◌+◌, ◌-◌, ◌<◌, ◌≤
 ghost use Rattle.std.specs.Vec.{vec_capacity};
 ghost use Rattle.std.specs.List.{insert};
 ghost use Rattle.std.specs.Map.{keys_of};
+ghost use Rattle.chunk_list.specs.Besides.{besides_of};
 
 use std::alloc::{AllocError, Global};
 use std::marker::Model;
 
 /// Where there is no room for one more item, moves the items to a block with room for so many in all: a
 /// new block, since a block that is to grow in place reads the memory behind it, which is mostly cold.
-pub(crate) fn reserve_block<T: Copy>(items: &mut Vec<T>, room: usize) -> Result<(), AllocError>
+pub(crate) fn reserve_block<T: Drop>(items: &mut Vec<T>, room: usize) -> Result<(), AllocError>
     requires { vec_len items.old < room }
     ensures items { items.new.items ≡ items.old.items }
     ensures len { vec_len items.new ≡ vec_len items.old }
@@ -22,7 +23,7 @@ pub(crate) fn reserve_block<T: Copy>(items: &mut Vec<T>, room: usize) -> Result<
         return Ok(());
     }
     let mut larger = Vec::with_capacity(*items.allocator(), room)?;
-    append_from(&mut larger, items.as_slice(), 0);
+    let _ = larger.append(items);
     *items = larger;
     Ok(())
 }
@@ -41,12 +42,12 @@ fn append_from<T: Copy>(items: &mut Vec<T>, other: &[T], from: usize)
 /// Items, each a key and what stands beside it. The keys lie in one block of memory and what stands
 /// beside them in another. A contract sees the items, and for how many more both blocks have room.
 #[derive(Drop)]
-pub(crate) struct Columns<K: Copy, V: Copy> {
+pub(crate) struct Columns<K: Copy, V> {
     keys: Vec<K>,
     besides: Vec<V>,
 }
 
-impl<K: Copy, V: Copy> Model for Columns<K, V> {
+impl<K: Copy, V> Model for Columns<K, V> {
     ghost use Rattle.std.specs.Prelude.{◌≡◌, ◌-◌, min, length};
     ghost use Rattle.std.specs.Coded.{coded×};
     ghost use Rattle.std.specs.List.{zip};
@@ -65,7 +66,7 @@ impl<K: Copy, V: Copy> Model for Columns<K, V> {
     ghost invariant = { λ c. vec_len c.besides ≡ vec_len c.keys };
 }
 
-impl<K: Copy, V: Copy> Columns<K, V> {
+impl<K: Copy, V: Drop> Columns<K, V> {
     /// No item, with room for so many.
     pub(crate) fn new(alloc: Global, room: usize) -> Result<Columns<K, V>, AllocError>
         ensures items { IfOk result (λ columns. columns.items ≡ []) }
@@ -82,20 +83,20 @@ impl<K: Copy, V: Copy> Columns<K, V> {
         self.keys.len()
     }
 
-    /// The item at a place.
-    pub(crate) fn get(&self, i: usize) -> (K, V)
-        requires { i < length self.now.items }
-        ensures { result ≡ slice_index_or self.now.items i result }
-    {
-        (self.keys[i], self.besides[i])
-    }
-
     /// The key at a place.
     pub(crate) fn key(&self, i: usize) -> K
         requires { i < length self.now.items }
         ensures { result ≡ slice_index_or (keys_of self.now.items) i result }
     {
         self.keys[i]
+    }
+
+    /// What stands beside the key at a place.
+    pub(crate) fn beside(&self, i: usize) -> &V
+        requires { i < length self.now.items }
+        ensures { result.now ≡ slice_index_or (besides_of self.now.items) i result.now }
+    {
+        &self.besides[i]
     }
 
     /// Makes room for one more item, and for half as many again, but for no more than `most` in all.
@@ -123,6 +124,27 @@ impl<K: Copy, V: Copy> Columns<K, V> {
         let (key, beside) = item;
         let _ = self.keys.insert(i, key);
         let _ = self.besides.insert(i, beside);
+    }
+
+    /// Moves what stands beside the keys to the end of a list, which has room for it. No item is left.
+    pub(crate) fn give_besides(&mut self, besides: &mut Vec<V>)
+        requires { vec_len besides.old + length self.old.items ≤ vec_capacity besides.old }
+        ensures besides { besides.new.items ≡ besides.old.items ++ besides_of self.old.items }
+        ensures capacity { vec_capacity besides.old ≤ vec_capacity besides.new }
+        ensures items { self.new.items ≡ [] }
+    {
+        self.keys.truncate(0);
+        let _ = besides.append(&mut self.besides);
+    }
+}
+
+impl<K: Copy, V: Copy> Columns<K, V> {
+    /// The item at a place.
+    pub(crate) fn get(&self, i: usize) -> (K, V)
+        requires { i < length self.now.items }
+        ensures { result ≡ slice_index_or self.now.items i result }
+    {
+        (self.keys[i], self.besides[i])
     }
 
     /// Appends the items of another list from a place on, where there is room for them.

@@ -1,10 +1,12 @@
 //! A few items in one block.
-ghost use Rattle.std.specs.Prelude.{◌≡◌, ◌+◌, ◌<◌, ◌≤◌, [], ◌∷◌, length, slice_index_or, IfOk, OnOk, OnErr, IsOk};
+ghost use Rattle.std.specs.Prelude.{◌≡◌, ◌+◌, ◌<◌, ◌≤◌, [], ◌∷◌, length, slice_index_or, OnOk, OnErr, IsOk};
+ghost use Rattle.std.specs.Vec.{vec_capacity};
 ghost use Rattle.std.specs.List.{insert};
 ghost use Rattle.std.specs.Map.{keys_of};
+ghost use Rattle.chunk_list.specs.Besides.{besides_of};
 
 use crate::columns::reserve_block;
-use std::alloc::{AllocError, Global};
+use std::alloc::AllocError;
 use std::marker::Model;
 
 /// How many items lie whole in one block, at most.
@@ -14,12 +16,12 @@ pub(crate) const FEW: usize = 8;
 /// here too, so that it is read without the block. A contract sees the items, and for how many more the
 /// block has room.
 #[derive(Drop)]
-pub(crate) struct Few<K: Copy, V: Copy> {
+pub(crate) struct Few<K: Copy, V> {
     items: Vec<(K, V)>,
     last: K,
 }
 
-impl<K: Copy, V: Copy> Model for Few<K, V> {
+impl<K: Copy, V> Model for Few<K, V> {
     ghost use Rattle.std.specs.Prelude.{◌-◌};
     ghost use Rattle.std.specs.Coded.{coded×};
     ghost use Rattle.std.specs.Vec.{vec_len, vec_capacity};
@@ -35,18 +37,17 @@ impl<K: Copy, V: Copy> Model for Few<K, V> {
     ghost invariant = { λ f. IsLastKey f.items.items f.last };
 }
 
-impl<K: Copy, V: Copy> Few<K, V> {
-    /// One item, with room for another.
-    pub(crate) fn new(alloc: Global, first: (K, V)) -> Result<Few<K, V>, AllocError>
-        ensures items { IfOk result (λ few. few.items ≡ first ∷ []) }
-        ensures room { IfOk result (λ few. 0 < few.spare) }
+impl<K: Copy, V: Drop> Few<K, V> {
+    /// One item, in an empty block that has room for another.
+    pub(crate) fn new(mut block: Vec<(K, V)>, first: (K, V)) -> Few<K, V>
+        requires empty { block.items ≡ [] }
+        requires room { 1 < vec_capacity block }
+        ensures items { result.items ≡ first ∷ [] }
+        ensures room { 0 < result.spare }
     {
-        let mut items = Vec::with_capacity(alloc, 2)?;
-        items.push_reserved(first);
-        Ok(Few {
-            items,
-            last: first.0,
-        })
+        let last = first.0;
+        block.push_reserved(first);
+        Few { items: block, last }
     }
 
     pub(crate) fn len(&self) -> usize
@@ -56,18 +57,18 @@ impl<K: Copy, V: Copy> Few<K, V> {
     }
 
     /// The items.
-    pub(crate) fn as_slice(&self) -> &[(K, V)]
-        ensures { result.now ≡ self.now.items }
+    pub(crate) fn into_items(self) -> Vec<(K, V)>
+        ensures { result.items ≡ self.items }
     {
-        self.items.as_slice()
+        self.items
     }
 
-    /// The item at a place.
-    pub(crate) fn get(&self, i: usize) -> (K, V)
+    /// What stands beside the key at a place.
+    pub(crate) fn beside(&self, i: usize) -> &V
         requires { i < length self.now.items }
-        ensures { result ≡ slice_index_or self.now.items i result }
+        ensures { result.now ≡ slice_index_or (besides_of self.now.items) i result.now }
     {
-        self.items[i]
+        &self.items[i].1
     }
 
     /// The key at a place.

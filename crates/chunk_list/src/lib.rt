@@ -10,6 +10,7 @@ mod near;
 mod part;
 mod parts;
 mod places;
+mod wide;
 
 pub use list::ChunkList;
 pub use near::Near;

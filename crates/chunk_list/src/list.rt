@@ -1,28 +1,25 @@
 //! The list.
-ghost use Rattle.std.specs.Prelude.{◌≡◌, ◌+◌, ◌<◌, ◌≤◌, [], length, slice_index_or, MatchOption, IfOk, OnOk, OnErr, IsOk};
+ghost use Rattle.std.specs.Prelude.{◌≡◌, ◌+◌, ◌<◌, ◌≤◌, [], length, slice_index_or, OnOk, OnErr, IsOk};
 ghost use Rattle.std.specs.List.{insert};
 ghost use Rattle.chunk_list.specs.Middle.{IsMiddle};
 ghost use Rattle.std.specs.Map.{keys_of};
+ghost use Rattle.chunk_list.specs.Besides.{besides_of};
 
-use crate::columns::Columns;
 use crate::few::{FEW, Few};
-use crate::long::Long;
 use crate::near::{Near, exact_middle};
-use crate::part::MOST;
+use crate::wide::Wide;
 use std::alloc::{AllocError, Global};
 use std::marker::Model;
+use std::mem::replace;
 
 /// How the items lie in memory.
 #[derive(Drop)]
-enum Form<K: Copy + Default, V: Copy + Default> {
+enum Form<K: Copy, V> {
     Empty,
     One((K, V)),
     /// At most `FEW`.
     Few(Few<K, V>),
-    /// At most as many as a part takes, the keys in one block and what stands beside them in another.
-    Flat(Box<Columns<K, V>>),
-    /// The keys in parts, and what stands beside them in the order in which it came.
-    Long(Box<Long<K, V>>),
+    Wide(Box<Wide<K, V>>),
 }
 
 /// A list of items, each a key and what stands beside it, that takes insertions at any place. A contract
@@ -33,12 +30,12 @@ enum Form<K: Copy + Default, V: Copy + Default> {
 /// beside it, which lies in the order in which it came, so that an insertion moves keys and places alone.
 /// There is no room for more than 4 294 967 296 items.
 #[derive(Drop)]
-pub struct ChunkList<K: Copy + Default, V: Copy + Default> {
+pub struct ChunkList<K: Copy + Default, V> {
     form: Form<K, V>,
     alloc: Global,
 }
 
-impl<K: Copy + Default, V: Copy + Default> Model for ChunkList<K, V> {
+impl<K: Copy + Default, V> Model for ChunkList<K, V> {
     ghost use Rattle.std.specs.Coded.{coded×};
     ghost use Rattle.chunk_list.specs.Spaced.{Spaced, spaced_code};
     ghost use Rattle.chunk_list.specs.Form.{form_view, IsShort};
@@ -52,59 +49,32 @@ impl<K: Copy + Default, V: Copy + Default> Model for ChunkList<K, V> {
     ghost invariant = { λ a. IsShort a.form };
 }
 
-ghost use Rattle.chunk_list.specs.Form.{form_view, IsShort, TakesMore, Replaces};
+ghost use Rattle.chunk_list.specs.Form.{form_view, IsFull, IsShort};
 
-/// The columns of a few items, with room for as many and half as many again.
-fn columns_of<K: Copy, V: Copy>(
-    alloc: Global,
-    items: &[(K, V)],
-) -> Result<Columns<K, V>, AllocError>
-    requires { length items.now ≤ FEW }
-    ensures items { IfOk result (λ columns. columns.items ≡ items.now) }
-    ensures room { IfOk result (λ columns. 0 < columns.spare) }
+/// Moves the items of a form that takes no more to the next one, which has room for more.
+fn widen<K: Copy + Default, V: Drop>(alloc: Global, form: &mut Form<K, V>) -> Result<(), AllocError>
+    requires { IsFull form.old }
+    ensures items { (form_view form.new).items ≡ (form_view form.old).items }
+    ensures room { OnOk result (0 < (form_view form.new).spare) }
+    ensures short { IsShort form.new }
+    ensures err { OnErr result (form.new ≡ form.old) }
 {
-    let mut columns = Columns::new(alloc, FEW + FEW / 2)?;
-    for (i, item) in items.iter().enumerate() {
-        columns.put(i, *item);
-    }
-    Ok(columns)
-}
-
-/// The items of full columns, in the form of a long list.
-fn long_form<K: Copy + Default, V: Copy + Default>(
-    alloc: Global,
-    columns: &Columns<K, V>,
-) -> Result<Form<K, V>, AllocError>
-    requires { length columns.now.items ≤ MOST }
-    ensures items { IfOk result (λ form. (form_view form).items ≡ columns.now.items) }
-    ensures room { IfOk result (λ form. 0 < (form_view form).spare) }
-    ensures short { IfOk result IsShort }
-{
-    let long = Long::new(alloc, columns)?;
-    Ok(Form::Long(Box::new(alloc, long)?))
-}
-
-/// The form that comes next, where one takes no more items.
-fn next_form<K: Copy + Default, V: Copy + Default>(
-    alloc: Global,
-    form: &Form<K, V>,
-) -> Result<Option<Form<K, V>>, AllocError>
-    requires { IsShort form.now }
-    ensures next { IfOk result (λ next. MatchOption next (TakesMore form.now) (Replaces form.now)) }
-    ensures free { 0 < (form_view form.now).spare → IsOk result }
-{
-    match form {
-        Form::One(first) => Ok(Some(Form::Few(Few::new(alloc, *first)?))),
-        Form::Few(few) if few.len() == FEW => {
-            let columns = columns_of(alloc, few.as_slice())?;
-            Ok(Some(Form::Flat(Box::new(alloc, columns)?)))
+    if let Form::One(_) = form {
+        let block = Vec::with_capacity(alloc, 2)?;
+        if let Form::One(first) = replace(form, Form::Empty) {
+            *form = Form::Few(Few::new(block, first));
         }
-        Form::Flat(columns) if columns.len() == MOST => Ok(Some(long_form(alloc, columns)?)),
-        _ => Ok(None),
+        return Ok(());
     }
+    let mut wide = Box::new(alloc, Wide::new(alloc)?)?;
+    if let Form::Few(few) = replace(form, Form::Empty) {
+        wide.fill(few.into_items());
+        *form = Form::Wide(wide);
+    }
+    Ok(())
 }
 
-impl<K: Copy + Default, V: Copy + Default> ChunkList<K, V> {
+impl<K: Copy + Default, V: Drop> ChunkList<K, V> {
     /// No item. The first takes no memory.
     pub fn new(alloc: Global) -> ChunkList<K, V>
         ensures items { result.items ≡ [] }
@@ -123,22 +93,20 @@ impl<K: Copy + Default, V: Copy + Default> ChunkList<K, V> {
             Form::Empty => 0,
             Form::One(_) => 1,
             Form::Few(few) => few.len(),
-            Form::Flat(columns) => columns.len(),
-            Form::Long(long) => long.len(),
+            Form::Wide(wide) => wide.len(),
         }
     }
 
-    /// The item at a place, which is looked for first where a search stands.
-    pub fn get(&self, i: usize, near: Near) -> (K, V)
+    /// What stands beside the key at a place, which is looked for first where a search stands.
+    pub fn beside(&self, i: usize, near: Near) -> &V
         requires { i < length self.now.items }
-        ensures { result ≡ slice_index_or self.now.items i result }
+        ensures { result.now ≡ slice_index_or (besides_of self.now.items) i result.now }
     {
         match &self.form {
-            Form::Empty => (K::default(), V::default()),
-            Form::One(item) => *item,
-            Form::Few(few) => few.get(i),
-            Form::Flat(columns) => columns.get(i),
-            Form::Long(long) => long.get(i, near),
+            Form::Empty => unreachable!(),
+            Form::One(item) => &item.1,
+            Form::Few(few) => few.beside(i),
+            Form::Wide(wide) => wide.beside(i, near),
         }
     }
 
@@ -152,15 +120,14 @@ impl<K: Copy + Default, V: Copy + Default> ChunkList<K, V> {
             Form::Empty => K::default(),
             Form::One(item) => item.0,
             Form::Few(few) => few.key(i),
-            Form::Flat(columns) => columns.key(i),
-            Form::Long(long) => long.key(i, near),
+            Form::Wide(wide) => wide.key(i, near),
         }
     }
 
     /// Where a search from one place up to another begins.
     pub fn near(&self, from: usize, to: usize) -> Near {
         match &self.form {
-            Form::Long(long) if from < to => long.near(from, to),
+            Form::Wide(wide) => wide.near(from, to),
             _ => Near::default(),
         }
     }
@@ -171,7 +138,7 @@ impl<K: Copy + Default, V: Copy + Default> ChunkList<K, V> {
         ensures { IsMiddle from to result }
     {
         match &self.form {
-            Form::Long(long) => long.middle(from, to, near),
+            Form::Wide(wide) => wide.middle(from, to, near),
             _ => exact_middle(from, to),
         }
     }
@@ -184,15 +151,12 @@ impl<K: Copy + Default, V: Copy + Default> ChunkList<K, V> {
         ensures free { 0 < self.old.spare → IsOk result }
         ensures err { OnErr result (self.new ≡ self.old) }
     {
-        if let Some(form) = next_form(self.alloc, &self.form)? {
-            self.form = form;
-            return Ok(());
-        }
+        let alloc = self.alloc;
         match &mut self.form {
-            Form::Few(few) => few.reserve(),
-            Form::Flat(columns) => columns.reserve(MOST),
-            Form::Long(long) => long.reserve(),
-            _ => Ok(()),
+            Form::Empty => Ok(()),
+            Form::Few(few) if few.len() < FEW => few.reserve(),
+            Form::Wide(wide) => wide.reserve(alloc),
+            form => widen(alloc, form),
         }
     }
 
@@ -205,8 +169,7 @@ impl<K: Copy + Default, V: Copy + Default> ChunkList<K, V> {
     {
         match &mut self.form {
             Form::Few(few) => few.put(i, item),
-            Form::Flat(columns) => columns.put(i, item),
-            Form::Long(long) => long.put(i, item),
+            Form::Wide(wide) => wide.put(i, item),
             form => *form = Form::One(item),
         }
     }

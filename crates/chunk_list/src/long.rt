@@ -3,6 +3,7 @@ ghost use Rattle.std.specs.Prelude.{◌≡◌, ◌+◌, ◌<◌, ◌≤◌, leng
 ghost use Rattle.std.specs.List.{insert};
 ghost use Rattle.chunk_list.specs.Middle.{IsMiddle};
 ghost use Rattle.std.specs.Map.{keys_of};
+ghost use Rattle.chunk_list.specs.Besides.{besides_of};
 
 use crate::columns::Columns;
 use crate::near::Near;
@@ -17,12 +18,12 @@ const PLACES: usize = 4_294_967_296;
 /// The keys in parts, each with the place of what stands beside it. What stands beside the keys lies in
 /// the order in which it came, and is never moved.
 #[derive(Drop)]
-pub(crate) struct Long<K: Copy, V: Copy> {
+pub(crate) struct Long<K: Copy, V> {
     parts: Parts<K, u32>,
     besides: Vec<V>,
 }
 
-impl<K: Copy, V: Copy> Model for Long<K, V> {
+impl<K: Copy, V> Model for Long<K, V> {
     ghost use Rattle.std.specs.Prelude.{◌-◌, min, length};
     ghost use Rattle.std.specs.Vec.{vec_len, vec_capacity};
     ghost use Rattle.std.specs.Coded.{coded×};
@@ -41,21 +42,21 @@ impl<K: Copy, V: Copy> Model for Long<K, V> {
     ghost invariant = { λ a. AreBelow (length a.besides.items) a.parts.items };
 }
 
-impl<K: Copy, V: Copy> Long<K, V> {
-    /// The items of full columns.
-    pub(crate) fn new(alloc: Global, items: &Columns<K, V>) -> Result<Long<K, V>, AllocError>
-        requires { length items.now.items ≤ MOST }
-        ensures items { IfOk result (λ long. long.items ≡ items.now.items) }
+impl<K: Copy, V: Drop> Long<K, V> {
+    /// The items of columns, which have none then.
+    pub(crate) fn new(alloc: Global, columns: &mut Columns<K, V>) -> Result<Long<K, V>, AllocError>
+        requires { length columns.old.items ≤ MOST }
+        ensures items { IfOk result (λ long. long.items ≡ columns.old.items) }
         ensures room { IfOk result (λ long. 0 < long.spare) }
+        ensures err { OnErr result (columns.new ≡ columns.old) }
     {
         let mut places = Columns::new(alloc, MOST)?;
-        let mut besides = Vec::with_capacity(alloc, 2 * MOST)?;
-        for i in 0..items.len() {
-            let (key, beside) = items.get(i);
-            places.put(i, (key, i as u32));
-            besides.push(beside)?;
+        for i in 0..columns.len() {
+            places.put(i, (columns.key(i), i as u32));
         }
         let parts = Parts::new(alloc, &places)?;
+        let mut besides = Vec::with_capacity(alloc, 2 * MOST)?;
+        columns.give_besides(&mut besides);
         Ok(Long { parts, besides })
     }
 
@@ -65,13 +66,13 @@ impl<K: Copy, V: Copy> Long<K, V> {
         self.parts.len()
     }
 
-    /// The item at a place, which is looked for first where a search stands.
-    pub(crate) fn get(&self, i: usize, near: Near) -> (K, V)
+    /// What stands beside the key at a place, which is looked for first where a search stands.
+    pub(crate) fn beside(&self, i: usize, near: Near) -> &V
         requires { i < length self.now.items }
-        ensures { result ≡ slice_index_or self.now.items i result }
+        ensures { result.now ≡ slice_index_or (besides_of self.now.items) i result.now }
     {
-        let (key, place) = self.parts.get(i, near);
-        (key, self.besides[place as usize])
+        let (_, place) = self.parts.get(i, near);
+        &self.besides[place as usize]
     }
 
     /// The key at a place, which is looked for first where a search stands.

@@ -11,10 +11,8 @@ ghost use Rattle.time_history.specs.Kinds.{OfOneSort};
 ghost use Rattle.time_column.specs.Stamp.{is_not_after};
 ghost use Rattle.time_history.specs.Updates.{stamp_of, update_at, placed, ComesLast, UpdatesRise, TimesRise, ValuesRise};
 ghost use Rattle.time_history.specs.Spans.{carries, IsSpan, IsCut, IsTaken, IsPart, IsAllowed, IsClipped};
-ghost use Rattle.time_history.specs.History.{lacks_blank, with_blank, blank_place};
 ghost use Rattle.time_history.specs.Asked.{IsAliveAt, HappensAt, IsPresent, IsLastKind, IsValue, IsValueIn, IsNextUpdate, IsNextContact, is_final_at};
 
-use crate::few::Few;
 use crate::search::{Probe, first_after, last_place};
 use crate::span::Span;
 use crate::updates::{KeyValues, Kind, Update};
@@ -36,93 +34,41 @@ fn same_moment(a: i64, b: i64) -> bool
     a == b
 }
 
-/// What an update does, and the place of its values in a list of the history's values.
-#[derive(Clone, Copy, Default, Drop)]
-struct Detail {
+/// What an update does, and the values that it sets.
+#[derive(Drop)]
+struct Change {
     kind: Kind,
-    values: u32,
-}
-
-/// Whether the values of one update stand alone, so that no place stands for updates without values.
-fn lacks_blank(values: &Few<KeyValues>) -> bool
-    ensures { result ≡ lacks_blank values.now.items }
-{
-    values.len() == 1 && values.get(0).len() > 0
-}
-
-/// The place that stands for updates without values.
-fn blank_place(values: &Few<KeyValues>) -> u32
-    requires { 0 < length values.now.items }
-    ensures { result ≡ blank_place values.now.items }
-{
-    if values.get(0).len() == 0 { 0 } else { 1 }
-}
-
-/// Whether an update with these values takes a place of its own among the values of all updates.
-fn takes_place(values: &Few<KeyValues>, props: &KeyValues) -> bool
-    ensures { result ≡ (nat_lt 0 (length props.now) || length values.now.items == 0) }
-{
-    props.len() > 0 || values.len() == 0
-}
-
-/// Makes room for the values of one more update. Where the values of one stand alone, a place is made
-/// beside them for updates without values.
-fn reserve_values(values: &mut Few<KeyValues>, props: &KeyValues) -> Result<(), AllocError>
-    ensures items { OnOk result (values.new.items ≡ with_blank values.old.items) }
-    ensures room { OnOk result (0 < length props.now → length values.new.items < values.new.capacity) }
-    ensures first { OnOk result (length values.new.items ≡ 0 → 0 < values.new.capacity) }
-    ensures free { lacks_blank values.old.items ≡ false → (0 < length props.now → length values.old.items < values.old.capacity) → (length values.old.items ≡ 0 → 0 < values.old.capacity) → IsOk result }
-    ensures capacity { values.old.capacity ≤ values.new.capacity }
-    ensures err { OnErr result (values.new ≡ values.old) }
-{
-    if lacks_blank(values) {
-        values.reserve(2)?;
-        let blank = KeyValues::new(values.allocator());
-        values.push_reserved(blank);
-        return Ok(());
-    }
-    if takes_place(values, props) {
-        return values.reserve(1);
-    }
-    Ok(())
+    props: KeyValues,
 }
 
 /// The updates of one entity, rising by time, then by order, then by arrival. A contract sees the
 /// updates, and for how many more there is room.
 #[derive(Drop)]
 pub struct History {
-    column: TimeColumn<Detail>,
-    // The first stands for all updates without values, or the second where the first update had values.
-    values: Few<KeyValues>,
+    column: TimeColumn<Change>,
 }
 
 impl Model for History {
-    ghost use Rattle.std.specs.Prelude.{◌-◌, length, min};
-    ghost use Rattle.time_history.specs.History.{Known, IsSound, updates_of, changes_of, takes};
+    ghost use Rattle.time_history.specs.History.{Known, IsSound, updates_of};
 
     ghost Value = { Known };
 
     ghost view = { λ h. record {
-      updates = updates_of h.column.stamps (changes_of h.column.besides h.values.items);
-      spare = takes h.values.items h.values.capacity h.column.spare;
-      spare_values = min (takes h.values.items h.values.capacity h.column.spare) (h.values.capacity - length h.values.items);
+      updates = updates_of h.column.stamps h.column.besides;
+      spare = h.column.spare;
     } };
 
-    ghost invariant = { λ h. IsSound h.column.stamps h.column.besides h.values.items };
+    ghost invariant = { λ h. IsSound h.column.stamps h.column.besides };
 }
 
 impl History {
-    ghost use Rattle.time_history.specs.History.{HasRoomFor};
-
-    /// No update. The first takes no memory, with values or without.
+    /// No update. The first takes no memory.
     pub fn new(alloc: Global) -> History
         ensures updates { result.updates ≡ [] }
         ensures spare { result.spare ≡ 1 }
-        ensures spare_values { result.spare_values ≡ 1 }
     {
         History {
             column: TimeColumn::new(alloc),
-            values: Few::new(alloc),
         }
     }
 
@@ -156,8 +102,7 @@ impl History {
         requires { i < length self.now.updates }
         ensures { result.now ≡ (update_at self.now.updates i).props }
     {
-        self.values
-            .get(self.column.beside_at(i as usize).values as usize)
+        &self.column.beside_at(i as usize).props
     }
 
     pub fn time_at<L: Ledger>(&self, i: u32, steps: &mut Steps<L>) -> i64
@@ -176,16 +121,14 @@ impl History {
         self.column.order_at(i as usize, steps)
     }
 
-    /// Makes room for one more update with these values.
-    pub fn reserve(&mut self, props: &KeyValues) -> Result<(), AllocError>
+    /// Makes room for one more update.
+    pub fn reserve(&mut self) -> Result<(), AllocError>
         ensures updates { self.new.updates ≡ self.old.updates }
-        ensures room { OnOk result (HasRoomFor props.now self.new) }
-        ensures free { HasRoomFor props.now self.old → IsOk result }
+        ensures room { OnOk result (0 < self.new.spare) }
+        ensures free { 0 < self.old.spare → IsOk result }
         ensures spare { self.old.spare ≤ self.new.spare }
-        ensures spare_values { self.old.spare_values ≤ self.new.spare_values }
         ensures err { OnErr result (self.new ≡ self.old) }
     {
-        reserve_values(&mut self.values, props)?;
         self.column.reserve()
     }
 
@@ -196,14 +139,13 @@ impl History {
         requires kinds { OfOneSort (update ∷ self.old.updates) }
         ensures ok { OnOk result (self.new.updates ≡ placed update self.old.updates) }
         ensures err { OnErr result (self.new ≡ self.old) }
-        ensures free { HasRoomFor update.props self.old → IsOk result }
+        ensures free { 0 < self.old.spare → IsOk result }
         ensures spare { self.old.spare ≤ self.new.spare + 1 }
-        ensures spare_values { self.old.spare_values ≤ self.new.spare_values + 1 }
         ensures cost { steps.new ≤ steps.old + (digits (length self.old.updates) + 1) }
         ensures cost_at_end { ComesLast update self.old.updates → steps.new ≤ steps.old + 1 }
     {
         let at = self.place_of(update.time, update.order, steps);
-        self.reserve(&update.props)?;
+        self.reserve()?;
         self.place(at, update);
         Ok(())
     }
@@ -226,10 +168,9 @@ impl History {
         requires after { (k : ℕ) → at ≤ k → k < length self.old.updates → is_not_after update.time update.order (stamp_of (update_at self.old.updates k)) ≡ false }
         requires last { All (λ u. u.arrival < update.arrival) self.old.updates }
         requires fits { length self.old.updates < 2 ^ 32 - 1 }
-        requires room { HasRoomFor update.props self.old }
+        requires room { 0 < self.old.spare }
         ensures updates { self.new.updates ≡ placed update self.old.updates }
         ensures spare { self.old.spare ≤ self.new.spare + 1 }
-        ensures spare_values { self.old.spare_values ≤ self.new.spare_values + 1 }
     {
         let Update {
             time,
@@ -238,16 +179,9 @@ impl History {
             kind,
             props,
         } = update;
-        if takes_place(&self.values, &props) {
-            let values = self.values.len() as u32;
-            let detail = Detail { kind, values };
-            self.column.put(at, time, order, arrival, detail);
-            self.values.push_reserved(props);
-            return;
-        }
-        let values = blank_place(&self.values);
-        let detail = Detail { kind, values };
-        self.column.put(at, time, order, arrival, detail);
+        let _rise = props.len();
+        let change = Change { kind, props };
+        self.column.put(at, time, order, arrival, change);
     }
 
     /// Whether what comes before a place is carried over it.
@@ -461,7 +395,7 @@ impl History {
         requires span { IsSpan self.now.updates span }
         ensures { IsValue self.now.updates span key (option_copied result) }
     {
-        let _values = &self.values;
+        let _column = &self.column;
         let start = if span.carried { 0 } else { span.from };
         self.value_in(start, span.to, key)
     }

@@ -1,7 +1,6 @@
 //! The updates of one entity in the order of time, and spans of them.
 #![tactic(auto)]
 
-mod few;
 mod history;
 mod search;
 mod span;

@@ -17,7 +17,7 @@ pub enum Probe {
 }
 
 /// Whether the stamp at a place passes.
-pub fn test<B: Copy + Default, L: Ledger>(
+pub fn test<B: Drop, L: Ledger>(
     column: &TimeColumn<B>,
     i: usize,
     near: Near,
@@ -35,7 +35,7 @@ pub fn test<B: Copy + Default, L: Ledger>(
 }
 
 /// The first place from `from` up to `to` whose stamp does not pass, or `to`.
-pub fn first_after<B: Copy + Default, L: Ledger>(
+pub fn first_after<B: Drop, L: Ledger>(
     column: &TimeColumn<B>,
     from: usize,
     to: usize,
@@ -68,7 +68,7 @@ pub fn first_after<B: Copy + Default, L: Ledger>(
 }
 
 /// The first place whose stamp does not pass, or the length. The last stamp is tried first.
-pub fn last_place<B: Copy + Default, L: Ledger>(
+pub fn last_place<B: Drop, L: Ledger>(
     column: &TimeColumn<B>,
     probe: Probe,
     steps: &mut Steps<L>,

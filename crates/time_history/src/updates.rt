@@ -4,10 +4,10 @@ ghost use Rattle.std.specs.List.{All};
 ghost use Rattle.std.specs.Option.{option_copied};
 
 use graph_model::Value;
-use smallvec::SmallVec;
 use std::alloc::{AllocError, Global};
-use std::default::MadeWith;
 use std::marker::Model;
+use std::mem::replace;
+use std::slice::from_ref;
 
 /// What an update does: it updates a node, or adds or deletes an edge.
 #[derive(Clone, Copy, Default, Drop)]
@@ -36,16 +36,6 @@ struct KeyValue {
     value: Value,
 }
 
-/// What stands at a place that is not used.
-impl Default for KeyValue {
-    fn default() -> KeyValue {
-        KeyValue {
-            key: 0,
-            value: Value::Int(0),
-        }
-    }
-}
-
 ghost use Rattle.time_history.specs.KeyValues.{value_at_key};
 ghost use Rattle.time_history.specs.Pairs.{pairs_of};
 
@@ -60,44 +50,46 @@ fn find_key(items: &[KeyValue], key: u32) -> Option<&Value>
     None
 }
 
+/// How the pairs lie in memory.
+#[derive(Drop)]
+enum Form {
+    Nothing,
+    One(KeyValue),
+    Many(Vec<KeyValue>),
+}
+
 /// Values by the numbers of their keys, which rise. A contract sees the pairs. One value takes no
 /// memory of its own.
 #[derive(Drop)]
 pub struct KeyValues {
-    items: SmallVec<KeyValue, 1>,
+    form: Form,
+    alloc: Global,
 }
 
 impl Model for KeyValues {
     ghost use Rattle.std.specs.Prelude.{ℕ, List};
     ghost use Rattle.graph_model.specs.declared.properties.Value.{Value as GraphValue};
     ghost use Rattle.time_history.specs.KeyValues.{KeysRise};
-    ghost use Rattle.time_history.specs.Pairs.{pairs_of};
+    ghost use Rattle.time_history.specs.Pairs.{pairs_in};
 
     ghost Value = { List (ℕ × GraphValue) };
 
-    ghost view = { λ a. pairs_of a.items.items };
+    ghost view = { λ a. pairs_in a.form };
 
-    ghost invariant = { λ a. KeysRise (pairs_of a.items.items) };
-}
-
-/// No value.
-impl MadeWith<Global> for KeyValues {
-    ghost is_made_with = { λ x. x ≡ [] };
-
-    fn made_with(alloc: Global) -> KeyValues {
-        KeyValues::new(alloc)
-    }
+    ghost invariant = { λ a. KeysRise (pairs_in a.form) };
 }
 
 impl KeyValues {
     ghost use Rattle.time_history.specs.KeyValues.{KeysRise, value_at_key};
+    ghost use Rattle.time_history.specs.Pairs.{pairs_of};
 
     /// No value.
     pub fn new(alloc: Global) -> KeyValues
         ensures { result ≡ [] }
     {
         KeyValues {
-            items: SmallVec::new(alloc),
+            form: Form::Nothing,
+            alloc,
         }
     }
 
@@ -107,36 +99,66 @@ impl KeyValues {
         ensures ok { OnOk result (self.new ≡ self.old ++ (key, value) ∷ []) }
         ensures err { OnErr result (self.new ≡ self.old) }
     {
-        self.items.push(KeyValue { key, value })?;
-        Ok(())
+        let pair = KeyValue { key, value };
+        match &mut self.form {
+            Form::Nothing => {
+                self.form = Form::One(pair);
+                Ok(())
+            }
+            Form::One(_) => {
+                let mut items = Vec::with_capacity(self.alloc, 2)?;
+                if let Form::One(first) = replace(&mut self.form, Form::Nothing) {
+                    items.push_reserved(first);
+                }
+                items.push_reserved(pair);
+                self.form = Form::Many(items);
+                Ok(())
+            }
+            Form::Many(items) => {
+                items.push(pair)?;
+                Ok(())
+            }
+        }
+    }
+
+    /// The pairs, side by side.
+    fn items(&self) -> &[KeyValue]
+        ensures pairs { pairs_of result.now ≡ self.now }
+        ensures rise { KeysRise self.now }
+    {
+        match &self.form {
+            Form::Nothing => &[],
+            Form::One(only) => from_ref(only),
+            Form::Many(items) => items.as_slice(),
+        }
     }
 
     pub fn len(&self) -> usize
         ensures len { result ≡ length self.now }
         ensures rise { KeysRise self.now }
     {
-        self.items.len()
+        self.items().len()
     }
 
     pub fn key_at(&self, i: usize) -> u32
         requires { i < length self.now }
         ensures { slice_get (map (λ p. p.0) self.now) i ≡ Some result }
     {
-        self.items[i].key
+        self.items()[i].key
     }
 
     pub fn value_at(&self, i: usize) -> &Value
         requires { i < length self.now }
         ensures { slice_get (map (λ p. p.1) self.now) i ≡ Some result.now }
     {
-        &self.items[i].value
+        &self.items()[i].value
     }
 
     /// The value of a key.
     pub(crate) fn find(&self, key: u32) -> Option<&Value>
         ensures { option_copied result ≡ value_at_key key self.now }
     {
-        find_key(self.items.as_slice(), key)
+        find_key(self.items(), key)
     }
 }
 

@@ -9,11 +9,9 @@ use Rattle.time_history.specs.declared.span.Span.{Span}
 use Rattle.time_history.specs.Updates.{update_at, TimesRise}
 use Rattle.time_history.specs.Spans.{IsSpan, IsTaken}
 use Rattle.time_history.specs.Asked.{IsPresent, is_final_at}
-use Rattle.time_history.specs.History.{changes_of}
 use Rattle.time_history.proofs.ByPlace.{rising_times}
 use Rattle.time_history.proofs.Clips.{cut_of_taken}
 use Rattle.time_history.proofs.Present.{present_found, present_none, present_carried, present_alone, present_bare}
-use Rattle.time_history.proofs.Held.{sound_lengths}
 use Rattle.time_history.proofs.history.History.ever_alive.Goals as goal
 use Rattle.time_history.proofs.history.History.ever_alive.Goals.{else-span-2-via-then-span-2+else-is_later, else-span-2-via-else-span-2}
 
@@ -28,16 +26,16 @@ bound_is r lo t b fits e h = sym (h ∙ ap (λ z. int_lt z t) (to_z-of_z w64 r f
 pub returns-then-span : goal.returns-then-span
 returns-then-span g c =
     let s = c.self.inside in
-    let cs = changes_of s.column.besides s.values.items in
-    let h = sound_lengths s.column.stamps s.column.besides s.values.items c.self.invariant in
+    let cs = s.column.besides in
+    let h = c.self.invariant.lengths in
     let rise = rising_times s.column.stamps cs c.args.self.now.updates h (ap (λ k. k.updates) c.self.view_is) c.self.invariant.rising in
     record { present = alone c.args.bounds c.args.self.now.updates c.args.span rise c.requires.span c.requires.taken c.if-span.true }
 
 pub returns-then-is_later : goal.returns-then-is_later
 returns-then-is_later g c =
     let s = c.self.inside in
-    let cs = changes_of s.column.besides s.values.items in
-    let h = sound_lengths s.column.stamps s.column.besides s.values.items c.self.invariant in
+    let cs = s.column.besides in
+    let h = c.self.invariant.lengths in
     let rise = rising_times s.column.stamps cs c.args.self.now.updates h (ap (λ k. k.updates) c.self.view_is) c.self.invariant.rising in
     let cut = cut_of_taken (λ b. c.if-span.false b.0) c.requires.taken in
     let order = c.requires.span.order in
@@ -51,8 +49,8 @@ returns-then-is_later g c =
 pub returns-then-is_final : goal.returns-then-is_final
 returns-then-is_final g c =
     let s = c.self.inside in
-    let cs = changes_of s.column.besides s.values.items in
-    let h = sound_lengths s.column.stamps s.column.besides s.values.items c.self.invariant in
+    let cs = s.column.besides in
+    let h = c.self.invariant.lengths in
     let rise = rising_times s.column.stamps cs c.args.self.now.updates h (ap (λ k. k.updates) c.self.view_is) c.self.invariant.rising in
     let cut = cut_of_taken (λ b. c.if-span.false b.0) c.requires.taken in
     let order = c.requires.span.order in
@@ -63,8 +61,8 @@ returns-then-is_final g c =
 pub returns : goal.returns
 returns g c =
     let s = c.self.inside in
-    let cs = changes_of s.column.besides s.values.items in
-    let h = sound_lengths s.column.stamps s.column.besides s.values.items c.self.invariant in
+    let cs = s.column.besides in
+    let h = c.self.invariant.lengths in
     let rise = rising_times s.column.stamps cs c.args.self.now.updates h (ap (λ k. k.updates) c.self.view_is) c.self.invariant.rising in
     let cut = cut_of_taken (λ b. c.if-span.false b.0) c.requires.taken in
     let order = c.requires.span.order in
