@@ -31,7 +31,7 @@ use Rattle.graph_store.specs.Indexed.{IsIndexed}
 use Rattle.graph_store.proofs.EdgeNames.{each_from}
 use Rattle.graph_store.proofs.LinkLaws.{same_ends-equal, same_ends-own}
 use Rattle.walk_algorithms.specs.Links.{HasLinks}
-use Rattle.walk_algorithms.proofs.Links.{same_number}
+use Rattle.walk_algorithms.proofs.Neighbours.{same_number}
 use Rattle.walk_algorithms.proofs.Numbers.{any_each, any_either, any_map, any_of_same}
 
 -- an event of an edge that the event model allows is an addition

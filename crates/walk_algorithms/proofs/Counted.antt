@@ -1,225 +1,257 @@
--- Links that are counted at their ends, one after another.
-use Rattle.std.proofs.Common.{◌≡◌, ℕ, ◌+◌, ◌<◌, ◌^◌, Bool, true, false, not, ◌&&◌, List, [], ◌∷◌, length, take, refl, sym, ◌∙◌, ap, subst, arith, inl, inr}
-use Rattle.std.specs.Prelude.{◌==◌, Option, Some, None, Result, Ok, Err, OnOk, position, if◌then◌else◌}
-use Rattle.std.specs.List.{filter, list_any, AllByRecursion}
-use Rattle.std.proofs.lemmas.Bool.{cases_Bool, eq-eqb, eqb-true, true≢false}
-use Rattle.std.proofs.lemmas.List.Quantifiers.{position-Some}
-use Rattle.graph_model.specs.World.{World}
+-- Links that are counted at their ends, each with its way back.
+use Rattle.std.proofs.Common.{◌≡◌, ℕ, ◌+◌, ◌<◌, ◌≤◌, ◌^◌, ◌⊎◌, Bool, true, false, not, ◌&&◌, ◌||◌, List, length, get_or, take, [], refl, sym, ◌∙◌, ap, subst, arith, inl, inr}
+use Rattle.std.specs.Prelude.{◌==◌, if◌then◌else◌}
+use Rattle.std.specs.List.{filter}
+use Rattle.std.proofs.lemmas.Int.{clamps}
+use Rattle.std.proofs.lemmas.Bool.{cases_Bool, eq-eqb, eqb-true, or_right, true≢false, false_from_ne_true}
+use Rattle.std.proofs.lemmas.List.{length-map, length-take, take_all}
+use Rattle.std.proofs.lemmas.List.Filters.{length-filter_more}
 use Rattle.world_laws.proofs.Counts.{length_filter_le}
-use Rattle.world_laws.proofs.Filters.{each_weaker, filter_both, filter_none, filter_same}
+use Rattle.world_laws.proofs.Filters.{filter_both}
 use Rattle.graph_store.specs.declared.pairs.Ends.{Ends}
-use Rattle.graph_store.specs.Ends.{ends_at, same_ends}
-use Rattle.graph_store.specs.Contents.{Contents}
-use Rattle.graph_store.specs.Indexed.{IsIndexed}
-use Rattle.graph_store.proofs.LinkLaws.{same_ends-equal, same_ends-own}
-use Rattle.graph_store.proofs.Listed.{list_any-place}
-use Rattle.graph_store.proofs.Readers.{none_found, one_found}
+use Rattle.graph_store.specs.Ends.{ends_at}
+use Rattle.walk_algorithms.specs.declared.links.Link.{Link}
 use Rattle.walk_algorithms.specs.declared.ways.Ways.{Ways}
-use Rattle.walk_algorithms.specs.Links.{links_from, links_to, links_of, leads_back, alone_among, pair_shown}
+use Rattle.walk_algorithms.specs.Links.{links_from, links_to, leads_back, alone_among}
 use Rattle.walk_algorithms.specs.Counted.{AreFew, AreWays, IsCounted, IsJoined, between, joined, plus, ways_of}
-use Rattle.walk_algorithms.specs.Taken.{is_taken, links_until, same_two, turned}
-use Rattle.walk_algorithms.proofs.Keyed.{any_same_kept}
-use Rattle.walk_algorithms.proofs.Taken.{among_same, count_new, count_one, count_two, one_if, taken_all, two_alike}
+use Rattle.walk_algorithms.specs.Taken.{ends_in, link_ends, next_back, turned, ArePaired, NoneFar}
+use Rattle.walk_algorithms.proofs.Paired.{back_here, back_next, cut_one, cut_two, link_at, next_apart, next_is, NoneCut}
 
--- the ends of a pair that a store gives are numbers of nodes
-pub ends_known : (v c : Contents) → v ≡ c → (p src dst : ℕ) → src ≡ (ends_at v.pairs p).src → dst ≡ (ends_at v.pairs p).dst
-    → (src ≡ (ends_at c.pairs p).src) × (dst ≡ (ends_at c.pairs p).dst)
-ends_known v c same p src dst is_src is_dst =
-    (is_src ∙ ap (λ (x : Contents). (ends_at x.pairs p).src) same, is_dst ∙ ap (λ (x : Contents). (ends_at x.pairs p).dst) same)
+-- no link is counted before the first
+pub counted_none : (links : List Ends) → IsCounted links (take 0 links) []
+counted_none links = record { ways = λ n. record { ins = refl; outs = refl; alone = refl }; sparse = λ n. refl }
 
--- the place of the pair of the same nodes the other way round, as a store gives it
-pub found_turned : (v c : Contents) → v ≡ c → (p src dst : ℕ) → src ≡ (ends_at c.pairs p).src → dst ≡ (ends_at c.pairs p).dst → (found : Option ℕ) → found ≡ position (same_ends (record { src = dst; dst = src })) v.pairs
-    → found ≡ position (same_ends (turned (ends_at c.pairs p))) c.pairs
-found_turned v c same p src dst is_src is_dst found is = is ∙ (λ k. position (same_ends (record { src = is_dst k; dst = is_src k })) (same k).pairs)
+-- one where a test passes
+abbrev one_if : Bool → ℕ
+one_if t = if t then 1 else 0
 
--- what follows from what a call ensures where it succeeds
-pub on_ok : {X E : Type 0} (r : Result X E) (P Q : Type 0) → (P → Q) → OnOk r P → OnOk r Q
-on_ok (Ok x) P Q f h = f h
-on_ok (Err e) P Q f h = h
-
+-- a test and one that passes
 and_true : (t : Bool) → (t && true) ≡ t
 and_true true = refl
 and_true false = refl
 
+-- a test and one that does not
 and_false : (t : Bool) → (t && false) ≡ false
 and_false true = refl
 and_false false = refl
 
--- ---- links and pairs
+-- the numbers of a node's ways with a link more, and with its way back where that stands next: whether the link begins at the node, whether it ends there, whether the next one is counted too, and whether some link leads back
+more_ways : (s d t b : Bool) (w : Ways) (i o a i' o' a' : ℕ) → (s ≡ true → d ≡ true → (t ≡ false) × (b ≡ true)) → (s ≡ not d → b ≡ t) → w.ins ≡ i → w.outs ≡ o → w.alone ≡ a
+    → i' ≡ i + (one_if d + one_if (s && t))
+    → o' ≡ o + (one_if s + one_if (d && t))
+    → a' ≡ a + one_if (d && not b)
+    → let v : Ways = if s then plus w (between true b) else (if d then plus w (between b true) else w) in (v.ins ≡ i') × (v.outs ≡ o') × (v.alone ≡ a')
+more_ways true true t b w i o a i' o' a' loop one x y z u v r =
+    let two = loop refl refl in
+    let e : one_if t ≡ 0 = ap one_if two.0 in
+    let f : one_if b ≡ 1 = ap one_if two.1 in
+    let g : one_if (not b) ≡ 0 = ap (λ k. one_if (not k)) two.1 in
+    (omega (arith, x, u, e, f), omega (arith, y, v, e, f), omega (arith, z, r, g))
+more_ways true false t b w i o a i' o' a' loop one x y z u v r =
+    let e : one_if b ≡ one_if t = ap one_if (one refl) in
+    (omega (arith, x, u, e), omega (arith, y, v), omega (arith, z, r))
+more_ways false true t b w i o a i' o' a' loop one x y z u v r =
+    let e : one_if b ≡ one_if t = ap one_if (one refl) in
+    let f : one_if (not b && true) ≡ one_if (not b) = ap one_if (and_true (not b)) in
+    (omega (arith, x, u), omega (arith, y, v, e), omega (arith, z, r, f))
+more_ways false false t b w i o a i' o' a' loop one x y z u v r = (omega (arith, x, u), omega (arith, y, v), omega (arith, z, r))
 
-module _ (c : Contents) (w : World) (ends : Ends) where
-  -- a pair is a link where it is one of the store and is shown
-  linked : list_any (same_ends ends) (links_of c w) ≡ (pair_shown c w ends && list_any (same_ends ends) c.pairs)
-  linked = any_same_kept same_ends same_ends-equal (pair_shown c w) ends c.pairs
+-- the first items are no more than all
+short_taken : {X : Type 0} (k : ℕ) (xs : List X) → length (take k xs) ≤ length xs
+short_taken k xs = rw (length-take k xs) (omega (arith, clamps))
 
-  pub linked_none : position (same_ends ends) c.pairs ≡ None → false ≡ list_any (same_ends ends) (links_of c w)
-  linked_none e = sym (linked ∙ (ap (λ t. pair_shown c w ends && t) (none_found (same_ends ends) c.pairs e) ∙ and_false (pair_shown c w ends)))
+-- where the next link to be counted stands
+abbrev next_place : List Ends → ℕ → ℕ
+next_place links i = i + (if next_back links i then 2 else 1)
 
-  pub linked_some : (j : ℕ) → position (same_ends ends) c.pairs ≡ Some j → (j < length c.pairs) × (same_ends ends (ends_at c.pairs j) ≡ true) × (pair_shown c w (ends_at c.pairs j) ≡ list_any (same_ends ends) (links_of c w))
-  linked_some j e =
-      let r = position-Some (same_ends ends) c.pairs j (record { src = 0; dst = 0 }) e in (
-        r.0,
-        r.1,
-        ap (pair_shown c w) (sym (same_ends-equal ends (ends_at c.pairs j) r.1))
-            ∙ sym (linked ∙ (ap (λ t. pair_shown c w ends && t) (one_found (same_ends ends) c.pairs j ends e) ∙ and_true (pair_shown c w ends))),
-      )
+module _ (links : List Ends) (h : ArePaired links) (i : ℕ) (below : i < length links) (cut : NoneCut links i) (far : NoneFar links i) where
+  -- the link at the place
+  abbrev here : Ends
+  here = ends_at links i
 
-module _ (c : Contents) (w : World) (i : ℕ) (below : i < length c.pairs) where
-  known : list_any (same_ends (ends_at c.pairs i)) c.pairs ≡ true
-  known = list_any-place (same_ends (ends_at c.pairs i)) c.pairs i (record { src = 0; dst = 0 }) below (same_ends-own (ends_at c.pairs i))
+  -- whether some link leads back from its end
+  abbrev back : Bool
+  back = leads_back links here
 
-  pub linked_here : pair_shown c w (ends_at c.pairs i) ≡ list_any (same_ends (ends_at c.pairs i)) (links_of c w)
-  linked_here = sym (linked c w (ends_at c.pairs i) ∙ (ap (λ t. pair_shown c w (ends_at c.pairs i) && t) known ∙ and_true (pair_shown c w (ends_at c.pairs i))))
+  -- the links counted do not part from their ways back
+  cut_next : NoneCut links (next_place links i)
+  cut_next = elim (cases_Bool (next_back links i)) [
+    | inl is ↦ subst (NoneCut links) (ap (λ t. i + (if t then 2 else 1)) (sym is)) (cut_two links h i below cut far is)
+    | inr not_is ↦ subst (NoneCut links) (ap (λ t. i + (if t then 2 else 1)) (sym not_is)) (cut_one links h i below cut far not_is)
+  ]
 
-  -- a loop leads back itself
-  pub loop_back : (ends_at c.pairs i).src ≡ (ends_at c.pairs i).dst → pair_shown c w (ends_at c.pairs i) ≡ leads_back (links_of c w) (ends_at c.pairs i)
-  loop_back loop = linked_here ∙ (λ k. list_any (same_ends (record { src = loop k; dst = sym loop k })) (links_of c w))
+  -- how many links pass a test, with one and its way back more
+  links_more : (test : Ends → Bool) → length (filter test (take (next_place links i) links)) ≡ length (filter test (take i links)) + (one_if (test here) + one_if (test (turned here) && next_back links i))
+  links_more test = elim (cases_Bool (next_back links i)) [
+    | inl is ↦
+        let two = next_is links h i below cut far is in
+        let one = length-filter_more test links i (record { src = 0; dst = 0 }) below in
+        let more = length-filter_more test links (i + 1) (record { src = 0; dst = 0 }) two.0 in
+        let place : next_place links i ≡ i + 2 = ap (λ t. i + (if t then 2 else 1)) is in
+        let other : one_if (test (turned here) && next_back links i) ≡ one_if (test (ends_at links (i + 1))) = ap (λ t. one_if (test (turned here) && t)) is ∙ (ap one_if (and_true (test (turned here))) ∙ ap (λ x. one_if (test x)) two.1) in
+        let same : i + 2 ≡ i + 1 + 1 = omega arith in
+        let end : length (filter test (take (next_place links i) links)) ≡ length (filter test (take (i + 1 + 1) links)) = ap (λ k. length (filter test (take k links))) (place ∙ same) in
+        omega (arith, one, more, other, end)
+    | inr not_is ↦
+        let one = length-filter_more test links i (record { src = 0; dst = 0 }) below in
+        let place : next_place links i ≡ i + 1 = ap (λ t. i + (if t then 2 else 1)) not_is in
+        let other : one_if (test (turned here) && next_back links i) ≡ 0 = ap (λ t. one_if (test (turned here) && t)) not_is ∙ ap one_if (and_false (test (turned here))) in
+        let end : length (filter test (take (next_place links i) links)) ≡ length (filter test (take (i + 1) links)) = ap (λ k. length (filter test (take k links))) place in
+        omega (arith, one, other, end)
+  ]
 
--- ---- one pair more
+  -- that is the next one, or the link itself
+  back_is : back ≡ (next_back links i || (here.src == here.dst))
+  back_is = back_here links h i below cut far
 
-apart_from_itself : (t b : Bool) → t ≡ b → one_if (not t && b) ≡ 0
-apart_from_itself true b e = refl
-apart_from_itself false true e = absurd (true≢false (sym e))
-apart_from_itself false false e = refl
-
--- the numbers of a node's ways with the links between two nodes more, where it tells whether it is the one and the other
-more_ways : (s d loop t b : Bool) (w : Ways) (i o a i' o' a' : ℕ) → (loop ≡ true → (s ≡ d) × (t ≡ b)) → (loop ≡ false → (s && d) ≡ false) → w.ins ≡ i → w.outs ≡ o → w.alone ≡ a
-    → i' ≡ i + (one_if (d && t) + (if loop then 0 else one_if (s && b)))
-    → o' ≡ o + (one_if (s && t) + (if loop then 0 else one_if (d && b)))
-    → a' ≡ a + (one_if ((d && not b) && t) + (if loop then 0 else one_if ((s && not t) && b)))
-    → let v : Ways = if s then plus w (between t b) else (if d then plus w (between b t) else w) in (v.ins ≡ i') × (v.outs ≡ o') × (v.alone ≡ a')
-more_ways true true true t b w i o a i' o' a' same apart x y z u v r = (let e = ap one_if (same refl).1 in omega arith, omega arith, (let e = apart_from_itself t b (same refl).1 in let f = apart_from_itself b t (sym (same refl).1) in omega arith))
-more_ways true false true t b w i o a i' o' a' same apart x y z u v r = absurd (true≢false (same refl).0)
-more_ways false true true t b w i o a i' o' a' same apart x y z u v r = absurd (true≢false (sym (same refl).0))
-more_ways false false true t b w i o a i' o' a' same apart x y z u v r = (omega arith, omega arith, omega arith)
-more_ways true true false t b w i o a i' o' a' same apart x y z u v r = absurd (true≢false (apart refl))
-more_ways true false false t b w i o a i' o' a' same apart x y z u v r = (omega arith, omega arith, omega arith)
-more_ways false true false t b w i o a i' o' a' same apart x y z u v r = (omega arith, omega arith, omega arith)
-more_ways false false false t b w i o a i' o' a' same apart x y z u v r = (omega arith, omega arith, omega arith)
-
-module _ (c : Contents) (w : World) (indexed : IsIndexed c) (i : ℕ) (below : i < length c.pairs) where
-  as_one : (test : Ends → Bool) (k : ℕ) → length (filter test (links_until c w k)) ≡ length (filter (λ p. (test p && pair_shown c w p) && is_taken (take k c.pairs) p) c.pairs)
-  as_one test k =
-      ap length (filter_both (λ p. pair_shown c w p && is_taken (take k c.pairs) p) test c.pairs)
-      ∙ (λ j. length (filter (λ p. turn (pair_shown c w p) (is_taken (take k c.pairs) p) (test p) j) c.pairs))
-    where
-      turn : (a b t : Bool) → ((a && b) && t) ≡ ((t && a) && b)
-      turn true b true = and_true b
-      turn true b false = and_false b
-      turn false b true = refl
-      turn false b false = refl
-
-  -- how many links pass a test, with a pair that was not taken and its reverse more
-  links_more : (test : Ends → Bool) → is_taken (take i c.pairs) (ends_at c.pairs i) ≡ false → length (filter test (links_until c w (i + 1)))
-      ≡ length (filter test (links_until c w i)) + (one_if (test (ends_at c.pairs i) && pair_shown c w (ends_at c.pairs i)) + (if ((ends_at c.pairs i).src == (ends_at c.pairs i).dst) then 0 else one_if (test (turned (ends_at c.pairs i)) && leads_back (links_of c w) (ends_at c.pairs i))))
-  links_more test new =
-      let e = ends_at c.pairs i in
-      let both = λ (p : Ends). test p && pair_shown c w p in
-      let here : one_if (both e && list_any (same_ends e) c.pairs) ≡ one_if (both e) = ap one_if (ap (λ t. both e && t) (known c w i below) ∙ and_true (both e)) in
-      let there : one_if (both (turned e) && list_any (same_ends (turned e)) c.pairs) ≡ one_if (test (turned e) && leads_back (links_of c w) e) =
-      ap one_if (grouped (test (turned e)) (pair_shown c w (turned e)) (list_any (same_ends (turned e)) c.pairs) ∙ ap (λ t. test (turned e) && t) (sym (linked c w (turned e)))) in
-      as_one test (i + 1)
-      ∙ (count_new same_two two_alike c.pairs i (record { src = 0; dst = 0 }) below (λ p. p) both c.pairs new
-      ∙ (λ k. sym (as_one test i) k + (count_two (λ p. p) both c.pairs e
-      ∙ (λ j. (count_one both c.pairs indexed.pairs e ∙ here) j + (if (e.src == e.dst) then 0 else (count_one both c.pairs indexed.pairs (turned e) ∙ there) j))) k))
-    where
-      grouped : (a b t : Bool) → ((a && b) && t) ≡ (a && (b && t))
-      grouped true b t = refl
-      grouped false b t = refl
-
-  module _ (new : is_taken (take i c.pairs) (ends_at c.pairs i) ≡ false) (before : List (ℕ × Ways)) (h : IsCounted (links_of c w) (links_until c w i) before) where
-    abbrev ends : Ends
-    ends = ends_at c.pairs i
-
-    abbrev there : Bool
-    there = pair_shown c w ends
-
-    abbrev back : Bool
-    back = leads_back (links_of c w) ends
-
-    -- the links between two nodes, counted at both with those before
-    ways_more : (n : ℕ) → AreWays (links_of c w) (links_until c w (i + 1)) n (joined ends.src ends.dst there back n (ways_of before n))
+  module _ (before : List (ℕ × Ways)) (counted : IsCounted links (take i links) before) where
+    -- the ways of a node after a link is counted with its way back
+    ways_more : (n : ℕ) → AreWays links (take (next_place links i) links) n (joined here.src here.dst true back n (ways_of before n))
     ways_more n =
-        let all = links_of c w in
-        let was = h.ways n in
-        let lead = λ (p : Ends). not (leads_back all p) in
-        let into = λ (p : Ends). p.dst == n in
-        let alone : (k : ℕ) → length (alone_among all (links_until c w k) n) ≡ length (filter (λ p. into p && lead p) (links_until c w k)) = λ k. ap length (filter_both into lead (links_until c w k)) in
-        let own : leads_back all (turned ends) ≡ there = sym (linked_here c w i below) in
+        let was = counted.ways n in
         let m =
-        more_ways (ends.src == n) (ends.dst == n) (ends.src == ends.dst) there back (ways_of before n) (length (links_to (links_until c w i) n)) (length (links_from (links_until c w i) n)) (length (alone_among all (links_until c w i) n)) (length (links_to (links_until c w (i + 1)) n)) (length (links_from (links_until c w (i + 1)) n)) (length (alone_among all (links_until c w (i + 1)) n))
-        (λ k. let loop : ends.src ≡ ends.dst = eqb-true ends.src ends.dst k in (ap (λ x. x == n) loop, loop_back c w i below loop))
-        (λ k. apart ends.src ends.dst k)
-        was.ins was.outs was.alone
-        (links_more into new)
-        (links_more (λ p. p.src == n) new)
-        (alone (i + 1) ∙ (links_more (λ p. into p && lead p) new ∙ (λ k. sym (alone i) k + (one_if ((into ends && not back) && there) + (if (ends.src == ends.dst) then 0 else one_if (((ends.src == n) && not (own k)) && back)))))) in
+        more_ways (here.src == n) (here.dst == n) (next_back links i) back (ways_of before n) (length (links_to (take i links) n)) (length (links_from (take i links) n)) (length (alone_among links (take i links) n)) (length (links_to (take (next_place links i) links) n)) (length (links_from (take (next_place links i) links) n)) (length (alone_among links (take (next_place links i) links) n))
+        loop one was.ins was.outs was.alone
+        (links_more (λ p. p.dst == n))
+        (links_more (λ p. p.src == n))
+        alone_more in
         record { ins = m.0; outs = m.1; alone = m.2 }
       where
-        apart : (s d : ℕ) → (s == d) ≡ false → ((s == n) && (d == n)) ≡ false
-        apart s d k = elim (cases_Bool (s == n)) [
-          | inl e ↦ ap (λ t. t && (d == n)) e ∙ elim (cases_Bool (d == n)) [
-            | inl f ↦ absurd (true≢false (sym (eq-eqb s d (eqb-true s n e ∙ sym (eqb-true d n f))) ∙ k))
-            | inr f ↦ f
-          ]
-          | inr e ↦ ap (λ t. t && (d == n)) e
-        ]
+        -- a loop is its own way back
+        loop : (here.src == n) ≡ true → (here.dst == n) ≡ true → (next_back links i ≡ false) × (back ≡ true)
+        loop e f =
+            let own : here.src ≡ here.dst = eqb-true here.src n e ∙ sym (eqb-true here.dst n f) in
+            (false_from_ne_true (next_back links i) (λ is. next_apart links h i below cut far is own), back_is ∙ or_right (next_back links i) (here.src == here.dst) (eq-eqb here.src here.dst own))
 
-    pub counted_more : (src dst : ℕ) → src ≡ ends.src → dst ≡ ends.dst → (s t : Bool) → s ≡ there → t ≡ back → (after : List (ℕ × Ways)) → IsJoined src dst s t before after → IsCounted (links_of c w) (links_until c w (i + 1)) after
-    counted_more src dst is_src is_dst s t is_there is_back after j = record {
-      ways = λ n. subst (AreWays (links_of c w) (links_until c w (i + 1)) n) (sym (j.ways n ∙ (λ k. joined (is_src k) (is_dst k) (is_there k) (is_back k) n (ways_of before n)))) (ways_more n);
-      sparse = j.sparse h.sparse;
+        -- where the link is no loop, only the next one can lead back
+        one : (here.src == n) ≡ not (here.dst == n) → back ≡ next_back links i
+        one e =
+            let other : (here.src == here.dst) ≡ false = false_from_ne_true (here.src == here.dst) (λ k. apart (here.dst == n) (sym (ap (λ x. x == n) (eqb-true here.src here.dst k)) ∙ e)) in
+            back_is ∙ (ap (λ t. next_back links i || t) other ∙ or_false (next_back links i))
+          where
+            apart : (t : Bool) → t ≡ not t → ⊥
+            apart true k = true≢false k
+            apart false k = true≢false (sym k)
+
+            or_false : (t : Bool) → (t || false) ≡ t
+            or_false true = refl
+            or_false false = refl
+
+        -- a way back that is counted too has a way back itself
+        alone_more : length (alone_among links (take (next_place links i) links) n) ≡ length (alone_among links (take i links) n) + one_if ((here.dst == n) && not back)
+        alone_more =
+            let all = λ (k : ℕ). ap length (filter_both (λ (p : Ends). p.dst == n) (λ p. not (leads_back links p)) (take k links)) in
+            let more = links_more (λ p. (p.dst == n) && not (leads_back links p)) in
+            let none : one_if (((here.src == n) && not (leads_back links (turned here))) && next_back links i) ≡ 0 = elim (cases_Bool (next_back links i)) [
+              | inl is ↦ ap (λ t. one_if (((here.src == n) && not t) && next_back links i)) (ap (leads_back links) (next_is links h i below cut far is).1 ∙ back_next links h i below cut far is) ∙ ap (λ t. one_if (t && next_back links i)) (and_false (here.src == n))
+              | inr not_is ↦ ap (λ t. one_if (((here.src == n) && not (leads_back links (turned here))) && t)) not_is ∙ ap one_if (and_false ((here.src == n) && not (leads_back links (turned here))))
+            ] in
+            let x = all (next_place links i) in
+            let y = all i in
+            omega (arith, x, y, more, none)
+
+    -- so some more links are counted
+    counted_more : (src dst : ℕ) → src ≡ here.src → dst ≡ here.dst → (t : Bool) → t ≡ back → (after : List (ℕ × Ways)) → IsJoined src dst true t before after → IsCounted links (take (next_place links i) links) after
+    counted_more src dst is_src is_dst t is_back after j = record {
+      ways = λ n. subst (AreWays links (take (next_place links i) links) n) (sym (j.ways n ∙ (λ k. joined (is_src k) (is_dst k) true (is_back k) n (ways_of before n)))) (ways_more n);
+      sparse = j.sparse counted.sparse;
     }
 
-    few_more : length c.pairs < 2 ^ 32 → (n : ℕ) (ways : Ways) → joined ends.src ends.dst there back n (ways_of before n) ≡ ways → AreFew ways
+    -- ways by few links are few
+    few_more : length links < 2 ^ 32 → (n : ℕ) (ways : Ways) → joined here.src here.dst true back n (ways_of before n) ≡ ways → AreFew ways
     few_more few n ways is =
-        let some = links_until c w (i + 1) in
-        let m = subst (AreWays (links_of c w) some n) is (ways_more n) in
-        let kept = length_filter_le (λ p. pair_shown c w p && is_taken (take (i + 1) c.pairs) p) c.pairs in
+        let some = take (next_place links i) links in
+        let m = subst (AreWays links some n) is (ways_more n) in
+        let kept = short_taken (next_place links i) links in
         let ins = length_filter_le (λ (p : Ends). p.dst == n) some in
         let outs = length_filter_le (λ (p : Ends). p.src == n) some in
-        let alone = length_filter_le (λ (p : Ends). not (leads_back (links_of c w) p)) (links_to some n) in
+        let alone = length_filter_le (λ (p : Ends). not (leads_back links p)) (links_to some n) in
         (omega (arith, m.ins, ins, kept, few), omega (arith, m.outs, outs, kept, few), omega (arith, m.alone, alone, ins, kept, few))
 
-    pub few_src : length c.pairs < 2 ^ 32 → (src : ℕ) → src ≡ ends.src → (s t : Bool) → s ≡ there → t ≡ back → AreFew (plus (ways_of before src) (between s t))
-    few_src few src is_src s t is_there is_back =
-        few_more few src (plus (ways_of before src) (between s t))
-        (ap (λ b. if b then plus (ways_of before src) (between there back) else (if (ends.dst == src) then plus (ways_of before src) (between back there) else ways_of before src)) (eq-eqb ends.src src (sym is_src))
-        ∙ (λ k. plus (ways_of before src) (between (sym is_there k) (sym is_back k))))
+    -- so are those of the node where the link begins
+    few_src : length links < 2 ^ 32 → (src : ℕ) → src ≡ here.src → (t : Bool) → t ≡ back → AreFew (plus (ways_of before src) (between true t))
+    few_src few src is_src t is_back =
+        few_more few src (plus (ways_of before src) (between true t))
+        (ap (λ b. if b then plus (ways_of before src) (between true back) else (if (here.dst == src) then plus (ways_of before src) (between back true) else ways_of before src)) (eq-eqb here.src src (sym is_src))
+        ∙ (λ k. plus (ways_of before src) (between true (sym is_back k))))
 
-    pub few_dst : length c.pairs < 2 ^ 32 → (dst : ℕ) → dst ≡ ends.dst → (s t : Bool) → s ≡ there → t ≡ back → AreFew (plus (ways_of before dst) (between t s))
-    few_dst few dst is_dst s t is_there is_back =
-        few_more few dst (plus (ways_of before dst) (between t s))
-        ((elim (cases_Bool (ends.src == dst)) [
+    -- and those of the node where it ends
+    few_dst : length links < 2 ^ 32 → (dst : ℕ) → dst ≡ here.dst → (t : Bool) → t ≡ back → AreFew (plus (ways_of before dst) (between t true))
+    few_dst few dst is_dst t is_back =
+        few_more few dst (plus (ways_of before dst) (between t true))
+        ((elim (cases_Bool (here.src == dst)) [
           | inl e ↦
-              let loop : ends.src ≡ ends.dst = eqb-true ends.src dst e ∙ is_dst in
-              let same : there ≡ back = loop_back c w i below loop in
-              ap (λ b. if b then plus (ways_of before dst) (between there back) else (if (ends.dst == dst) then plus (ways_of before dst) (between back there) else ways_of before dst)) e
-              ∙ (λ k. plus (ways_of before dst) (between (same k) (sym same k)))
+              let own : here.src ≡ here.dst = eqb-true here.src dst e ∙ is_dst in
+              let loop : true ≡ back = sym (back_is ∙ or_right (next_back links i) (here.src == here.dst) (eq-eqb here.src here.dst own)) in
+              ap (λ b. if b then plus (ways_of before dst) (between true back) else (if (here.dst == dst) then plus (ways_of before dst) (between back true) else ways_of before dst)) e
+              ∙ (λ k. plus (ways_of before dst) (between (loop k) (sym loop k)))
           | inr e ↦
-              ap (λ b. if b then plus (ways_of before dst) (between there back) else (if (ends.dst == dst) then plus (ways_of before dst) (between back there) else ways_of before dst)) e
-              ∙ ap (λ b. if b then plus (ways_of before dst) (between back there) else ways_of before dst) (eq-eqb ends.dst dst (sym is_dst))
+              ap (λ b. if b then plus (ways_of before dst) (between true back) else (if (here.dst == dst) then plus (ways_of before dst) (between back true) else ways_of before dst)) e
+              ∙ ap (λ b. if b then plus (ways_of before dst) (between back true) else ways_of before dst) (eq-eqb here.dst dst (sym is_dst))
         ])
-        ∙ (λ k. plus (ways_of before dst) (between (sym is_back k) (sym is_there k))))
+        ∙ (λ k. plus (ways_of before dst) (between (sym is_back k) true)))
 
-  -- a pair that was taken with its reverse adds nothing
-  pub counted_same : is_taken (take i c.pairs) (ends_at c.pairs i) ≡ true → (table : List (ℕ × Ways)) → IsCounted (links_of c w) (links_until c w i) table → IsCounted (links_of c w) (links_until c w (i + 1)) table
-  counted_same old table h =
-      subst (λ some. IsCounted (links_of c w) some table)
-      (λ k. filter (λ p. pair_shown c w p && sym (among_same same_two two_alike c.pairs i (record { src = 0; dst = 0 }) below old p) k) c.pairs) h
+-- ---- links as a function has them
 
--- no link is counted before the first pair
-pub counted_none : (c : Contents) (w : World) → IsCounted (links_of c w) (links_until c w 0) []
-counted_none c w =
-    let none : links_until c w 0 ≡ [] = filter_none (λ p. pair_shown c w p && false) c.pairs (each c.pairs) in
-    subst (λ some. IsCounted (links_of c w) some []) (sym none) (record { ways = λ n. record { ins = refl; outs = refl; alone = refl }; sparse = λ n. refl })
-  where
-    each : (xs : List Ends) → AllByRecursion (λ p. (pair_shown c w p && false) ≡ false) xs
-    each [] = tt
-    each (x ∷ xs) = (and_false (pair_shown c w x), each xs)
+module _ (slice : List Link) (h : ArePaired (ends_in slice)) (i : ℕ) (exists : i < length slice) (cut : NoneCut (ends_in slice) i) (far : NoneFar (ends_in slice) i) (before : List (ℕ × Ways)) (counted : IsCounted (ends_in slice) (take i (ends_in slice)) before)
+    (next : Bool) (is_next : next ≡ next_back (ends_in slice) i) (back : Bool) (chosen : ((next ≡ true) × (back ≡ next)) ⊎ ((next ≡ false) × (back ≡ ((get_or slice i (record { src = 0; dst = 0 })).src == (get_or slice i (record { src = 0; dst = 0 })).dst)))) where
+  -- the ends of all links
+  abbrev links : List Ends
+  links = ends_in slice
 
--- and all are after the last
-pub counted_all : (c : Contents) (w : World) (k : ℕ) → k ≡ length c.pairs → (table : List (ℕ × Ways)) → IsCounted (links_of c w) (links_until c w k) table → IsCounted (links_of c w) (links_of c w) table
-counted_all c w k is table h =
-    subst (λ some. IsCounted (links_of c w) some table)
-    (ap (links_until c w) is ∙ filter_same (λ p. pair_shown c w p && is_taken (take (length c.pairs) c.pairs) p) (pair_shown c w) c.pairs (each_weaker (λ p. is_taken (take (length c.pairs) c.pairs) p ≡ true) (λ p. (pair_shown c w p && is_taken (take (length c.pairs) c.pairs) p) ≡ pair_shown c w p) (λ p e. ap (λ t. pair_shown c w p && t) e ∙ and_true (pair_shown c w p)) c.pairs (taken_all c.pairs))) h
+  -- the link at the place
+  abbrev link : Link
+  link = get_or slice i (record { src = 0; dst = 0 })
+
+  -- they are as many
+  long : length links ≡ length slice
+  long = length-map slice link_ends
+
+  -- so the place is one of theirs
+  below : i < length links
+  below = omega (arith, long, exists)
+
+  -- the ends of the link stand there
+  its : link_ends link ≡ ends_at links i
+  its = sym (link_at slice i exists)
+
+  -- so it begins where they say
+  src_is : link.src ≡ (ends_at links i).src
+  src_is = ap (λ (p : Ends). p.src) its
+
+  -- and ends where they say
+  dst_is : link.dst ≡ (ends_at links i).dst
+  dst_is = ap (λ (p : Ends). p.dst) its
+
+  -- whether some link leads back is what was chosen
+  leads : back ≡ leads_back links (ends_at links i)
+  leads = chosen_is chosen ∙ ((λ k. is_next k || (src_is k == dst_is k)) ∙ sym (back_here links h i below cut far))
+    where
+      chosen_is : ((next ≡ true) × (back ≡ next)) ⊎ ((next ≡ false) × (back ≡ (link.src == link.dst))) → back ≡ (next || (link.src == link.dst))
+      chosen_is (inl e) = e.1 ∙ (e.0 ∙ sym (ap (λ t. t || (link.src == link.dst)) e.0))
+      chosen_is (inr e) = e.1 ∙ sym (ap (λ t. t || (link.src == link.dst)) e.0)
+
+  -- the ways of the node where the link begins can be counted
+  pub src_few : length slice < 2 ^ 32 → AreFew (plus (ways_of before link.src) (between true back))
+  src_few few = few_src links h i below cut far before counted (omega (arith, long, few)) link.src src_is back leads
+
+  -- and those of the node where it ends
+  pub dst_few : length slice < 2 ^ 32 → AreFew (plus (ways_of before link.dst) (between back true))
+  dst_few few = few_dst links h i below cut far before counted (omega (arith, long, few)) link.dst dst_is back leads
+
+  -- once they are, more of the links are counted, and they do not part
+  pub step_counted : (after : List (ℕ × Ways)) → IsJoined link.src link.dst true back before after → (step : ℕ) → ((next ≡ true) × (step ≡ 2)) ⊎ ((next ≡ false) × (step ≡ 1))
+      → IsCounted links (take (i + step) links) after × NoneCut links (i + step)
+  step_counted after joins step ahead =
+      let place : next_place links i ≡ i + step = ap (λ t. i + (if t then 2 else 1)) (sym is_next) ∙ ap (λ k. i + k) (sym (steps ahead)) in (
+        subst (λ k. IsCounted links (take k links) after) place (counted_more links h i below cut far before counted link.src link.dst src_is dst_is back leads after joins),
+        subst (NoneCut links) place (cut_next links h i below cut far),
+      )
+    where
+      steps : ((next ≡ true) × (step ≡ 2)) ⊎ ((next ≡ false) × (step ≡ 1)) → step ≡ (if next then 2 else 1)
+      steps (inl e) = e.1 ∙ sym (ap (λ t. if t then 2 else 1) e.0)
+      steps (inr e) = e.1 ∙ sym (ap (λ t. if t then 2 else 1) e.0)
+
+-- all links are counted once the place is behind the last
+pub counted_all : (slice : List Link) (i : ℕ) → length slice ≤ i → (table : List (ℕ × Ways)) → IsCounted (ends_in slice) (take i (ends_in slice)) table → IsCounted (ends_in slice) (ends_in slice) table
+counted_all slice i all table h = let long = length-map slice link_ends in subst (λ some. IsCounted (ends_in slice) some table) (take_all i (ends_in slice) (omega (arith, long, all))) h

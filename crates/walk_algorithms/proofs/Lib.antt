@@ -1,9 +1,10 @@
 pub mod Numbers
-pub mod Links
+pub mod Neighbours
 pub mod Base
 pub mod Sorted
 pub mod Keyed
 pub mod Taken
+pub mod Paired
 pub mod Spent
 pub mod Counted
 pub mod Rows

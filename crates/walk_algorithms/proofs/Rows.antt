@@ -10,7 +10,7 @@ use Rattle.walk_algorithms.specs.declared.ways.Ways.{Ways}
 use Rattle.walk_algorithms.specs.Links.{HasLinks, is_end}
 use Rattle.walk_algorithms.specs.Counted.{AreWays, has_way}
 use Rattle.walk_algorithms.proofs.Keyed.{any_counted}
-use Rattle.walk_algorithms.proofs.Links.{count_both, count_in, count_out, few_neighbours}
+use Rattle.walk_algorithms.proofs.Neighbours.{count_both, count_in, count_out, few_neighbours}
 
 -- a node has a way where a link begins or ends there
 pub way_is_end : (links : List Ends) (n : ℕ) (ways : Ways) → AreWays links links n ways → has_way ways ≡ is_end links n

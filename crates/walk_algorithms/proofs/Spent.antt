@@ -1,5 +1,5 @@
 -- Steps that searches take, one after another.
-use Rattle.std.proofs.Common.{ℕ, ◌+◌, ◌*◌, ◌≤◌, ◌-◌, ◌≡◌, subst, arith}
+use Rattle.std.proofs.Common.{ℕ, ◌+◌, ◌*◌, ◌≤◌, arith}
 use Rattle.view_trait.specs.Meaning.{IsWithin}
 
 -- no search
@@ -17,9 +17,3 @@ spent_among a b k n t m le h = grind arith
 -- searches of some, and then of some others
 pub spent_then : (a b c k n t m : ℕ) → IsWithin a b (k * t) m → IsWithin b c (n * t) m → IsWithin a c ((k + n) * t) m
 spent_then a b c k n t m h l = grind arith
-
--- searches of some, and then of the rest of more
-pub spent_rest : (a b c k n t m : ℕ) → k ≤ n → IsWithin a b (k * t) m → IsWithin b c ((n - k) * t) m → IsWithin a c (n * t) m
-spent_rest a b c k n t m le h l =
-    let all : k + (n - k) ≡ n = omega arith in
-    subst (λ x. IsWithin a c (x * t) m) all (spent_then a b c k (n - k) t m h l)

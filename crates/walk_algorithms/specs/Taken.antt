@@ -1,40 +1,49 @@
--- Pairs that are gone over together with their reverses.
-use Rattle.std.specs.Prelude.{ℕ, List, Bool, false, ◌&&◌, ◌||◌, ◌+◌, ◌==◌, Option, None, Some, nat_lt, length, take, if◌then◌else◌}
-use Rattle.std.specs.List.{filter, list_any}
+-- The pairs of a store, gone over in turn, and links that stand side by side with their ways back.
+use Rattle.std.specs.Prelude.{ℕ, List, ◌+◌, ◌*◌, ◌^◌, ◌<◌, ◌≡◌, ◌&&◌, Bool, false, nat_lt, length, take, map, if◌then◌else◌}
+use Rattle.std.specs.List.{filter, list_any, IsDistinct}
+use Rattle.std.specs.List.Sorted.{IsSortedBy}
 use Rattle.graph_model.specs.World.{World}
 use Rattle.graph_store.specs.declared.pairs.Ends.{Ends}
 use Rattle.graph_store.specs.declared.edges.EdgeParts.{EdgeParts}
-use Rattle.graph_store.specs.Ends.{same_ends}
-use Rattle.graph_store.specs.Linked.{edges_between}
+use Rattle.graph_store.specs.Ends.{ends_at, same_ends}
 use Rattle.graph_store.specs.Parts.{ends_of}
 use Rattle.graph_store.specs.Contents.{Contents}
+use Rattle.walk_algorithms.specs.declared.links.Link.{Link}
 use Rattle.walk_algorithms.specs.Links.{pair_shown}
 
 -- the pair of the same nodes the other way round
 abbrev pub turned : Ends → Ends
 turned p = record { src = p.dst; dst = p.src }
 
--- whether pairs are of the same two nodes, either way round
-abbrev pub same_two : Ends → Ends → Bool
-same_two q p = same_ends q p || same_ends (turned q) p
+-- the ends of a link
+abbrev pub link_ends : Link → Ends
+link_ends l = record { src = l.src; dst = l.dst }
 
--- whether a number, if there is one, is below another
-abbrev pub is_below : Option ℕ → ℕ → Bool
-is_below None i = false
-is_below (Some j) i = nat_lt j i
+-- the ends of links, in their order
+abbrev pub ends_in : List Link → List Ends
+ends_in links = map link_ends links
 
--- whether a pair or its reverse is one of some pairs
-abbrev pub is_taken : List Ends → Ends → Bool
-is_taken pairs p = list_any (λ q. same_two q p) pairs
+-- the number that a link shares with its way back, and with no other link: its lower end, and then its higher one
+abbrev pub both_ends : Ends → ℕ
+both_ends p = if nat_lt p.dst p.src then p.dst * 2 ^ 32 + p.src else p.src * 2 ^ 32 + p.dst
 
--- the links that stand among the first pairs of a store, or whose reverses do
+-- distinct links, each beside its way back, if that is one of them
+pub record ArePaired (links : List Ends) : Type 0 where
+  pub once : IsDistinct same_ends links
+  pub sorted : IsSortedBy (λ (p q : Ends). nat_lt (both_ends p) (both_ends q)) links
+
+-- whether the link after the one at a place leads back
+abbrev pub next_back : List Ends → ℕ → Bool
+next_back links i = nat_lt (i + 1) (length links) && same_ends (turned (ends_at links i)) (ends_at links (i + 1))
+
+-- no link behind that one leads back
+abbrev pub NoneFar : List Ends → ℕ → Type 0
+NoneFar links i = (k : ℕ) → i + 1 < k → k < length links → same_ends (turned (ends_at links i)) (ends_at links k) ≡ false
+
+-- the links that stand among the first pairs of a store
 abbrev pub links_until : Contents → World → ℕ → List Ends
-links_until c w i = filter (λ p. pair_shown c w p && is_taken (take i c.pairs) p) c.pairs
+links_until c w i = filter (pair_shown c w) (take i c.pairs)
 
--- how many edges have such pairs
+-- how many edges have these pairs
 abbrev pub edges_until : Contents → ℕ → ℕ
-edges_until c i = length (filter (λ (e : EdgeParts). is_taken (take i c.pairs) (ends_of e)) c.edges)
-
--- how many edges a pair and its reverse have
-abbrev pub edges_both : Contents → Ends → ℕ
-edges_both c p = length (edges_between c.edges p) + (if (p.src == p.dst) then 0 else length (edges_between c.edges (turned p)))
+edges_until c i = length (filter (λ (e : EdgeParts). list_any (same_ends (ends_of e)) (take i c.pairs)) c.edges)

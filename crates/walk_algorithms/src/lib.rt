@@ -4,8 +4,8 @@
 mod degree_rows;
 mod laws;
 mod link_ways;
+mod links;
 mod present_nodes;
-mod shown_pairs;
 mod ways;
 
 pub use degree_rows::{Degree, DegreeRows, degrees};

@@ -1,4 +1,4 @@
-use Rattle.walk_algorithms.proofs.Links.{count_both, count_in, count_out}
+use Rattle.walk_algorithms.proofs.Neighbours.{count_both, count_in, count_out}
 use Rattle.walk_algorithms.proofs.laws.links_count_neighbours.Goals as goal
 
 pub returns-clause-outward : goal.returns-clause-outward

@@ -1,4 +1,4 @@
-use Rattle.walk_algorithms.proofs.Links.{names_both, names_inward, names_outward}
+use Rattle.walk_algorithms.proofs.Neighbours.{names_both, names_inward, names_outward}
 use Rattle.walk_algorithms.proofs.laws.neighbours_are_at_the_ends_of_links.Goals as goal
 
 pub returns-clause-outward : goal.returns-clause-outward

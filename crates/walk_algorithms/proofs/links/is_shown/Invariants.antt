@@ -5,7 +5,7 @@ use Rattle.graph_store.specs.Ends.{ends_at}
 use Rattle.graph_store.specs.Linked.{edges_between}
 use Rattle.view_trait.specs.Meaning.{IsWithin}
 use Rattle.walk_algorithms.specs.Links.{edge_shown, pair_shown}
-use Rattle.walk_algorithms.proofs.shown_pairs.is_shown.Given as goal
+use Rattle.walk_algorithms.proofs.links.is_shown.Given as goal
 
 -- the edges that are left, and the searches for those that were asked
 abbrev pub invariant-loop-e : goal.invariant-loop-e

@@ -7,7 +7,7 @@ use Rattle.graph_store.specs.Contents.{Contents}
 use Rattle.view_trait.proofs.Pairs.{edges_within}
 use Rattle.walk_algorithms.specs.Links.{edge_shown}
 use Rattle.walk_algorithms.proofs.Spent.{spent_among, spent_more, spent_nothing}
-use Rattle.walk_algorithms.proofs.shown_pairs.is_shown.Goals as goal
+use Rattle.walk_algorithms.proofs.links.is_shown.Goals as goal
 
 pub loop-e-init : goal.loop-e-init
 loop-e-init g c =
