@@ -30,12 +30,12 @@ enum Form<K: Copy, V> {
 /// beside it, which lies in the order in which it came, so that an insertion moves keys and places alone.
 /// There is no room for more than 4 294 967 296 items.
 #[derive(Drop)]
-pub struct ChunkList<K: Copy + Default, V> {
+pub struct ChunkList<K: Copy, V> {
     form: Form<K, V>,
     alloc: Global,
 }
 
-impl<K: Copy + Default, V> Model for ChunkList<K, V> {
+impl<K: Copy, V> Model for ChunkList<K, V> {
     ghost use Rattle.std.specs.Coded.{coded×};
     ghost use Rattle.chunk_list.specs.Spaced.{Spaced, spaced_code};
     ghost use Rattle.chunk_list.specs.Form.{form_view, IsShort};
@@ -52,7 +52,7 @@ impl<K: Copy + Default, V> Model for ChunkList<K, V> {
 ghost use Rattle.chunk_list.specs.Form.{form_view, IsFull, IsShort};
 
 /// Moves the items of a form that takes no more to the next one, which has room for more.
-fn widen<K: Copy + Default, V: Drop>(alloc: Global, form: &mut Form<K, V>) -> Result<(), AllocError>
+fn widen<K: Copy, V: Drop>(alloc: Global, form: &mut Form<K, V>) -> Result<(), AllocError>
     requires { IsFull form.old }
     ensures items { (form_view form.new).items ≡ (form_view form.old).items }
     ensures room { OnOk result (0 < (form_view form.new).spare) }
@@ -74,7 +74,7 @@ fn widen<K: Copy + Default, V: Drop>(alloc: Global, form: &mut Form<K, V>) -> Re
     Ok(())
 }
 
-impl<K: Copy + Default, V: Drop> ChunkList<K, V> {
+impl<K: Copy, V: Drop> ChunkList<K, V> {
     /// No item. The first takes no memory.
     pub fn new(alloc: Global) -> ChunkList<K, V>
         ensures items { result.items ≡ [] }
@@ -117,7 +117,7 @@ impl<K: Copy + Default, V: Drop> ChunkList<K, V> {
         ensures { result ≡ slice_index_or (keys_of self.now.items) i result }
     {
         match &self.form {
-            Form::Empty => K::default(),
+            Form::Empty => unreachable!(),
             Form::One(item) => item.0,
             Form::Few(few) => few.key(i),
             Form::Wide(wide) => wide.key(i, near),

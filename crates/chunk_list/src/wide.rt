@@ -43,7 +43,7 @@ impl<K: Copy, V> Model for Wide<K, V> {
     ghost invariant = { λ w. IsFlat w.rows };
 }
 
-impl<K: Copy + Default, V: Drop> Wide<K, V> {
+impl<K: Copy, V: Drop> Wide<K, V> {
     /// No item, with room for those of a block of few and half as many again.
     pub(crate) fn new(alloc: Global) -> Result<Wide<K, V>, AllocError>
         ensures items { IfOk result (λ wide. wide.items ≡ []) }
