@@ -8,7 +8,8 @@ use Rattle.std.proofs.lemmas.List.Elements.{All-cons, All-head, All-tail}
 use Rattle.chunk_list.specs.Besides.{besides_of}
 use Rattle.chunk_list.specs.Long.{looked_up, AreBelow}
 
-map-insert : {X Y : Type 0} (f : X → Y) (xs : List X) (i : ℕ) (x : X) → i ≤ length xs → map f (insert xs i x) ≡ insert (map f xs) i (f x)
+-- what is made of the items of a list where one more stands among them
+pub map-insert : {X Y : Type 0} (f : X → Y) (xs : List X) (i : ℕ) (x : X) → i ≤ length xs → map f (insert xs i x) ≡ insert (map f xs) i (f x)
 map-insert f [] zero x le = refl
 map-insert f [] (suc i) x le = absurd (omega arith)
 map-insert f (y ∷ xs) zero x le = refl

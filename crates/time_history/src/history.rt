@@ -34,18 +34,11 @@ fn same_moment(a: i64, b: i64) -> bool
     a == b
 }
 
-/// What an update does, and the values that it sets.
-#[derive(Drop)]
-struct Change {
-    kind: Kind,
-    props: KeyValues,
-}
-
 /// The updates of one entity, rising by time, then by order, then by arrival. A contract sees the
 /// updates, and for how many more there is room.
 #[derive(Drop)]
 pub struct History {
-    column: TimeColumn<Change>,
+    column: TimeColumn<Kind, KeyValues>,
 }
 
 impl Model for History {
@@ -95,14 +88,14 @@ impl History {
         requires { i < length self.now.updates }
         ensures { result ≡ (update_at self.now.updates i).kind }
     {
-        self.column.beside_at(i as usize).kind
+        self.column.tag_at(i as usize)
     }
 
     pub fn values_at(&self, i: u32) -> &KeyValues
         requires { i < length self.now.updates }
         ensures { result.now ≡ (update_at self.now.updates i).props }
     {
-        &self.column.beside_at(i as usize).props
+        self.column.beside_at(i as usize)
     }
 
     pub fn time_at<L: Ledger>(&self, i: u32, steps: &mut Steps<L>) -> i64
@@ -180,8 +173,7 @@ impl History {
             props,
         } = update;
         let _rise = props.len();
-        let change = Change { kind, props };
-        self.column.put(at, time, order, arrival, change);
+        self.column.put(at, time, order, arrival, (kind, props));
     }
 
     /// Whether what comes before a place is carried over it.

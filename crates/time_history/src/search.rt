@@ -17,8 +17,8 @@ pub enum Probe {
 }
 
 /// Whether the stamp at a place passes.
-pub fn test<B: Drop, L: Ledger>(
-    column: &TimeColumn<B>,
+pub fn test<T: Copy, B: Drop, L: Ledger>(
+    column: &TimeColumn<T, B>,
     i: usize,
     near: Near,
     probe: Probe,
@@ -35,8 +35,8 @@ pub fn test<B: Drop, L: Ledger>(
 }
 
 /// The first place from `from` up to `to` whose stamp does not pass, or `to`.
-pub fn first_after<B: Drop, L: Ledger>(
-    column: &TimeColumn<B>,
+pub fn first_after<T: Copy, B: Drop, L: Ledger>(
+    column: &TimeColumn<T, B>,
     from: usize,
     to: usize,
     probe: Probe,
@@ -68,8 +68,8 @@ pub fn first_after<B: Drop, L: Ledger>(
 }
 
 /// The first place whose stamp does not pass, or the length. The last stamp is tried first.
-pub fn last_place<B: Drop, L: Ledger>(
-    column: &TimeColumn<B>,
+pub fn last_place<T: Copy, B: Drop, L: Ledger>(
+    column: &TimeColumn<T, B>,
     probe: Probe,
     steps: &mut Steps<L>,
 ) -> usize

@@ -4,8 +4,7 @@ use Rattle.graph_model.specs.Searches.{digits}
 use Rattle.time_column.specs.Stamp.{Stamp, stamp_at, is_not_after}
 use Rattle.time_history.specs.declared.updates.Update.{Update}
 use Rattle.time_history.specs.Updates.{stamp_of, update_at}
-use Rattle.time_history.specs.declared.history.Change.{Change}
-use Rattle.time_history.specs.History.{updates_of}
+use Rattle.time_history.specs.History.{Change, updates_of}
 use Rattle.time_history.proofs.ByPlace.{length-updates_of, stamp_of-update_at}
 use Rattle.time_history.proofs.history.History.place_of.Goals as goal
 
