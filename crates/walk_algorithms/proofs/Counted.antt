@@ -14,7 +14,7 @@ use Rattle.walk_algorithms.specs.declared.links.Link.{Link}
 use Rattle.walk_algorithms.specs.declared.ways.Ways.{Ways}
 use Rattle.walk_algorithms.specs.Links.{links_from, links_to, leads_back, alone_among}
 use Rattle.walk_algorithms.specs.Counted.{AreFew, AreWays, IsCounted, IsJoined, between, joined, plus, ways_of}
-use Rattle.walk_algorithms.specs.Taken.{ends_in, link_ends, next_back, turned, ArePaired, NoneFar}
+use Rattle.walk_algorithms.specs.Paired.{ends_in, link_ends, next_back, turned, ArePaired, NoneFar}
 use Rattle.walk_algorithms.proofs.Paired.{back_here, back_next, cut_one, cut_two, link_at, next_apart, next_is, NoneCut}
 
 -- no link is counted before the first

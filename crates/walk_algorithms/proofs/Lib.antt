@@ -3,7 +3,7 @@ pub mod Neighbours
 pub mod Base
 pub mod Sorted
 pub mod Keyed
-pub mod Taken
+pub mod Listing
 pub mod Paired
 pub mod Spent
 pub mod Counted

@@ -19,7 +19,7 @@ use Rattle.walk_algorithms.specs.declared.links.Link.{Link}
 use Rattle.walk_algorithms.specs.declared.ways.Ways.{Ways}
 use Rattle.walk_algorithms.specs.Links.{alone_among, leads_back}
 use Rattle.walk_algorithms.specs.Counted.{IsCounted}
-use Rattle.walk_algorithms.specs.Taken.{both_ends, ends_in, link_ends, next_back, turned, ArePaired, NoneFar}
+use Rattle.walk_algorithms.specs.Paired.{both_ends, ends_in, link_ends, next_back, turned, ArePaired, NoneFar}
 
 -- ---- links in another order
 

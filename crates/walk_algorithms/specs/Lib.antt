@@ -1,4 +1,4 @@
 pub mod Links
 pub mod Counted
-pub mod Taken
+pub mod Paired
 pub mod Degrees

@@ -89,8 +89,8 @@ fn degrees_of<V: View>(alloc: Global, view: &V, named: &[Named<'_>]) -> Result<D
 }
 
 /// The degrees of the present nodes, rising by the bytes of their names. The span of each node and of
-/// each edge is asked once at most. It takes memory for the present nodes alone, and none for the
-/// other nodes, the pairs and the edges of the store.
+/// each edge is asked once at most. It takes memory for the links that the view shows, 8 bytes each, and
+/// for the present nodes, and none for the other pairs, nodes and edges of the store.
 pub fn degrees<V: View, L: Ledger>(
     alloc: Global,
     view: &V,

@@ -4,7 +4,7 @@ ghost use Rattle.graph_model.specs.declared.events.Model.TheVariants.{Event as I
 ghost use Rattle.view_trait.specs.Meaning.{IsWithin};
 ghost use Rattle.walk_algorithms.specs.Links.{links_of};
 ghost use Rattle.walk_algorithms.specs.Counted.{IsCounted};
-ghost use Rattle.walk_algorithms.specs.Taken.{ArePaired, NoneFar, ends_in, next_back};
+ghost use Rattle.walk_algorithms.specs.Paired.{ArePaired, NoneFar, ends_in, next_back};
 
 use crate::links::{Link, shown_links};
 use crate::ways::WayTable;

@@ -5,7 +5,7 @@ ghost use Rattle.graph_store.specs.Ends.{ends_at, same_ends};
 ghost use Rattle.graph_store.specs.Linked.{edges_between};
 ghost use Rattle.view_trait.specs.Meaning.{IsWithin};
 ghost use Rattle.walk_algorithms.specs.Links.{links_of, pair_shown};
-ghost use Rattle.walk_algorithms.specs.Taken.{both_ends, ends_in, link_ends, turned};
+ghost use Rattle.walk_algorithms.specs.Paired.{both_ends, ends_in, link_ends, turned};
 
 use graph_model::Memory;
 use graph_store::PairId;

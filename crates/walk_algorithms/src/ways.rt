@@ -18,8 +18,8 @@ pub struct Ways {
 }
 
 impl Ways {
-    /// The ways by the links between a node and one that is not lower or higher than it: whether one
-    /// leads there, and whether one leads back.
+    /// The ways that the links between a node and another, or itself, give the node: whether one leads
+    /// there, and whether one leads back.
     fn between(there: bool, back: bool) -> Ways
         ensures { result ≡ between there back }
     {

@@ -3,12 +3,13 @@ use Rattle.std.specs.Prelude.{IsPermutation}
 use Rattle.std.specs.List.{IsDistinct}
 use Rattle.std.proofs.lemmas.List.{length-map}
 use Rattle.std.proofs.lemmas.List.Sorted.{IsNonDecreasingBy-from_sort_by_key, IsPermutation-map, length_permutation}
+use Rattle.std.proofs.lemmas.Result.{IfOk-weaker}
 use Rattle.graph_store.specs.Contents.{Contents}
 use Rattle.graph_store.specs.Ends.{same_ends}
 use Rattle.walk_algorithms.specs.Links.{links_of}
-use Rattle.walk_algorithms.specs.Taken.{ArePaired, both_ends, ends_in, link_ends}
+use Rattle.walk_algorithms.specs.Paired.{ArePaired, both_ends, ends_in, link_ends}
+use Rattle.walk_algorithms.proofs.Listing.{few_links, links_once, paired_from_sort}
 use Rattle.walk_algorithms.proofs.Paired.{counted_permuted}
-use Rattle.walk_algorithms.proofs.Taken.{few_links, if_ok, links_once, paired_from_sort}
 use Rattle.walk_algorithms.proofs.link_ways.link_ways.Goals as goal
 
 pub count_links-requires-clause-paired : goal.count_links-requires-clause-paired
@@ -40,4 +41,4 @@ returns-clause-ways g c =
     subst (λ links. IsPermutation links (ends_in c.as_slice.result.now)) c.in_ok-links.ensures.links
     (subst (λ links. IsPermutation (ends_in c.in_ok-links.links.items) (ends_in links)) (sym c.as_slice.ensures.value)
     (IsPermutation-map link_ends c.in_ok-links.links.items c.sort_unstable_by_key.new.self.items c.sort_unstable_by_key.ensures.permutation)) in
-    if_ok c.count_links.result _ _ (λ table. counted_permuted (links_of s w) (ends_in c.as_slice.result.now) table moved) c.count_links.ensures
+    IfOk-weaker c.count_links.result _ _ (λ table. counted_permuted (links_of s w) (ends_in c.as_slice.result.now) table moved) c.count_links.ensures

@@ -5,9 +5,9 @@ use Rattle.graph_store.specs.Ends.{ends_at}
 use Rattle.graph_store.specs.Linked.{edges_between}
 use Rattle.view_trait.specs.Meaning.{IsWithin}
 use Rattle.walk_algorithms.specs.Links.{pair_shown}
-use Rattle.walk_algorithms.specs.Taken.{edges_until}
+use Rattle.walk_algorithms.specs.Paired.{edges_until}
 use Rattle.walk_algorithms.proofs.Spent.{spent_among, spent_then}
-use Rattle.walk_algorithms.proofs.Taken.{edges_more, few_until, links_all, links_more}
+use Rattle.walk_algorithms.proofs.Listing.{edges_more, few_until, links_all, links_more}
 use Rattle.walk_algorithms.proofs.links.shown_links.Goals as goal
 
 pub returns-in_err-push_shown-clause-cost : goal.returns-in_err-push_shown-clause-cost

@@ -1,7 +1,7 @@
 use Rattle.std.proofs.Common.{◌≡◌, ◌*◌, length}
 use Rattle.graph_model.specs.declared.events.Model.TheVariants.{Event as Instants}
 use Rattle.view_trait.specs.Meaning.{IsWithin}
-use Rattle.walk_algorithms.specs.Taken.{edges_until, ends_in, links_until}
+use Rattle.walk_algorithms.specs.Paired.{edges_until, ends_in, links_until}
 use Rattle.walk_algorithms.proofs.links.shown_links.Given as goal
 
 -- the links among the first pairs, and the searches for the edges of these pairs

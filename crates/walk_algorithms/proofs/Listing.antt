@@ -1,6 +1,6 @@
 -- The pairs of a store, gone over in turn: the links among them, and how many edges have them. And links that are sorted.
 use Rattle.std.proofs.Common.{◌≡◌, ℕ, ◌+◌, ◌<◌, Bool, true, false, ◌||◌, List, [], ◌∷◌, ◌++◌, length, take, get_or, refl, sym, ◌∙◌, ap, subst, arith}
-use Rattle.std.specs.Prelude.{◌≤◌, nat_lt, IfOk, IsPermutation, Result, Ok, Err, if◌then◌else◌}
+use Rattle.std.specs.Prelude.{◌≤◌, nat_lt, IsPermutation, if◌then◌else◌}
 use Rattle.std.specs.List.{filter, list_any, IsDistinct}
 use Rattle.std.specs.List.Sorted.{IsNonDecreasingBy}
 use Rattle.std.proofs.lemmas.Bool.{le-ltb}
@@ -22,7 +22,7 @@ use Rattle.graph_store.specs.Indexed.{IsIndexed}
 use Rattle.graph_store.proofs.LinkLaws.{same_ends-equal, same_ends-own}
 use Rattle.walk_algorithms.specs.declared.links.Link.{Link}
 use Rattle.walk_algorithms.specs.Links.{links_of, pair_shown}
-use Rattle.walk_algorithms.specs.Taken.{ArePaired, both_ends, edges_until, ends_in, link_ends, links_until}
+use Rattle.walk_algorithms.specs.Paired.{ArePaired, both_ends, edges_until, ends_in, link_ends, links_until}
 use Rattle.walk_algorithms.proofs.Keyed.{count_either, length-places, short_take}
 use Rattle.walk_algorithms.proofs.Numbers.{distinct_filter}
 
@@ -80,11 +80,6 @@ pub few_until : (c : Contents) (i : ℕ) → edges_until c i ≤ length c.edges
 few_until c i = length_filter_le (λ (e : EdgeParts). list_any (same_ends (ends_of e)) (take i c.pairs)) c.edges
 
 -- ---- sorted links
-
--- what follows from what a call ensures of its result
-pub if_ok : {X E : Type 0} (r : Result X E) (P Q : X → Type 0) → ((x : X) → P x → Q x) → IfOk r P → IfOk r Q
-if_ok (Ok x) P Q f h = f x h
-if_ok (Err e) P Q f h = h
 
 -- distinct links that are sorted by both their ends stand beside their ways back
 pub paired_from_sort : (before after : List Link) → IsDistinct same_ends (ends_in before) → IsPermutation before after → IsNonDecreasingBy (λ (l : Link). both_ends (link_ends l)) after → ArePaired (ends_in after)
