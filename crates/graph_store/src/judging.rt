@@ -1,4 +1,4 @@
-//! Why an event is refused.
+//! Why an event or a type is refused.
 ghost use Rattle.std.specs.Prelude.{◌≡◌, ℕ, ◌+◌, ◌-◌, ◌^◌, ◌<◌, ◌≤◌, option_map, length, IsTrue};
 ghost use Rattle.std.specs.List.{find};
 ghost use Rattle.indexmap.specs.IndexSet.{insert_key};

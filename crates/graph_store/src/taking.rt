@@ -1,4 +1,4 @@
-//! Events of nodes, taken with the keys of their properties.
+//! Events of nodes and edges, taken with the keys of their properties.
 ghost use Rattle.std.specs.Prelude.{◌≡◌, ℕ, List, ◌+◌, ◌-◌, ◌^◌, ◌<◌, ◌≤◌, true, is_some, position, length, vec_len, OnOk, OnErr};
 ghost use Rattle.indexmap.specs.IndexSet.{insert_key};
 ghost use Rattle.graph_model.specs.declared.properties.Value.{Value as GraphValue};
