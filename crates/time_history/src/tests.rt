@@ -122,6 +122,7 @@ fn seven_additions<L: Ledger>(
     assert_eq!(rt; ends(span), (2, 5, false));
     assert_eq!(rt; number(history.value(span, 0)), Some(4));
     let none = clipped(&history, model, (4, 4), steps).ok_or("no bounds")?;
+    assert!(rt; none.is_empty());
     assert!(rt; history.last_kind(none).is_none());
     assert!(rt; alive(&history, model, 3, steps));
     assert!(rt; !alive(&history, model, 7, steps));
@@ -151,6 +152,23 @@ fn deleted_edge<L: Ledger>(
     Ok(())
 }
 
+fn updates_by_place<L: Ledger>(
+    rt: &impl Abort,
+    alloc: Global,
+    steps: &mut Steps<L>,
+) -> Result<(), Fail> {
+    let mut history = every(alloc, 2, (3, 4, 100), 1, steps)?;
+    history.reserve()?;
+    assert_eq!(rt; history.len(), 2);
+    assert!(rt; !history.kind_at(0).is_deletion());
+    assert!(rt; history.kind_at(1).is_deletion());
+    let values = history.values_at(0);
+    assert_eq!(rt; values.len(), 1);
+    assert_eq!(rt; values.key_at(0), 0);
+    assert_eq!(rt; number(Some(values.value_at(0))), Some(3));
+    Ok(())
+}
+
 fn all_rows<L: Ledger>(rt: &impl Abort, alloc: Global, blank: Blank) -> Result<(), Fail>
     requires name { blank.name ≡ L.name }
     requires parts { blank.parts ≡ L.parts }
@@ -159,7 +177,8 @@ fn all_rows<L: Ledger>(rt: &impl Abort, alloc: Global, blank: Blank) -> Result<(
     let mut steps = Steps::<L>::new(blank);
     late_updates(rt, alloc, &mut steps)?;
     seven_additions(rt, alloc, &mut steps)?;
-    deleted_edge(rt, alloc, &mut steps)
+    deleted_edge(rt, alloc, &mut steps)?;
+    updates_by_place(rt, alloc, &mut steps)
 }
 
 #[test]

@@ -33,7 +33,7 @@ fn put_said<L: Ledger>(
 }
 
 /// Puts records into a store, and says whether all were accepted.
-fn put_records<L: Ledger>(
+pub(crate) fn put_records<L: Ledger>(
     alloc: Global,
     store: &mut Store,
     records: &[&[u8]],
@@ -101,7 +101,7 @@ fn printed<V: View, L: Ledger>(
 }
 
 /// A view is listed as these records.
-fn prints<V: View, L: Ledger>(
+pub(crate) fn prints<V: View, L: Ledger>(
     rt: &impl Abort,
     alloc: Global,
     view: &V,
