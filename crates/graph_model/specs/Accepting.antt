@@ -15,6 +15,7 @@ use Rattle.graph_model.specs.Refusal.{RecordRefusal, Deletion, KeyType, Retype, 
 use Rattle.graph_model.specs.Rising.{rising}
 use Rattle.graph_model.specs.ValueKind.{same_value_type, value_type}
 use Rattle.graph_model.specs.World.{allows, type_of}
+use Rattle.graph_model.specs.Limits.{most_events, most_nodes, most_layers, most_keys, most_types}
 
 -- the events of nodes, and those of edges
 abbrev pub node_events : List Event → List Event
@@ -85,12 +86,12 @@ count_of Types xs types = distinct (type_names types)
 
 -- how many of it there may be
 abbrev pub limit_of : Counted → ℕ
-limit_of Events = 4194304
-limit_of Nodes = 1048576
-limit_of Layers = 64
-limit_of NodeKeys = 256
-limit_of EdgeKeys = 256
-limit_of Types = 4096
+limit_of Events = most_events
+limit_of Nodes = most_nodes
+limit_of Layers = most_layers
+limit_of NodeKeys = most_keys
+limit_of EdgeKeys = most_keys
+limit_of Types = most_types
 
 -- whether there are too many of it
 abbrev pub is_over : List Event → List (List ℕ × List ℕ) → Counted → Bool

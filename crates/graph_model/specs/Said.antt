@@ -17,6 +17,7 @@ use Rattle.graph_model.specs.Refusal.{RecordRefusal, Shape, Text, Time, Outside,
 use Rattle.graph_model.specs.Rising.{in_order}
 use Rattle.graph_model.specs.TextForm.{is_name}
 use Rattle.graph_model.specs.WholeNumber.{number_of, whole_of}
+use Rattle.graph_model.specs.Limits.{most_properties}
 
 -- what a record says: bounds, the type of a node, or an event
 pub data Said : Type 0 where
@@ -84,7 +85,7 @@ moment_inside bounds (Some at) = if is_inside bounds at.0 then Ok at else Err Ou
 
 -- fields are properties: at most 256, each of them one, and no two with one key
 abbrev pub are_properties : List (List ℕ) → Bool
-are_properties fields = nat_le (length fields) 256 && (list_all (λ field. is_some (property_of field)) fields && keys_differ (filter_map property_of fields))
+are_properties fields = nat_le (length fields) most_properties && (list_all (λ field. is_some (property_of field)) fields && keys_differ (filter_map property_of fields))
 
 -- the properties that fields are, rising by key
 abbrev pub properties_in : List (List ℕ) → Option (List (List ℕ × Value))

@@ -2,6 +2,7 @@
 #![tactic(auto)]
 
 mod events;
+mod limits;
 mod names;
 mod properties;
 mod queries;
@@ -10,6 +11,10 @@ mod time_bounds;
 mod word_list;
 
 pub use events::{EdgeName, Entity, Event, EventList, Model, What};
+pub use limits::{
+    MOST_EVENTS, MOST_EVENTS_BYTES, MOST_KEYS, MOST_LAYERS, MOST_NAME_BYTES, MOST_NODES,
+    MOST_PROPERTIES, MOST_SCRIPT_BYTES, MOST_TEXT_BYTES, MOST_TYPES, MOST_VIEWS,
+};
 pub use names::{Name, NameFault, Text, TextFault};
 pub use properties::{Props, PropsFault, Value, ValueType};
 pub use queries::{Ask, Cmp, Direction, Each, NameList, Op, OpList, Query, TypeList};

@@ -7,6 +7,7 @@ ghost use Rattle.graph_model.specs.Names.{name_cmp, same_name};
 ghost use Rattle.graph_model.specs.Props.{put_prop};
 ghost use Rattle.graph_model.specs.Pairs.{pairs};
 
+use crate::limits::MOST_PROPERTIES;
 use crate::names::{Name, Text};
 use std::alloc::{AllocError, Global};
 
@@ -58,19 +59,21 @@ impl std::marker::Model for Props {
     ghost use Rattle.std.specs.Prelude.{ℕ, List, ◌≤◌, ◌<◌, length, map};
     ghost use Rattle.std.specs.Vec.{vec_len};
     ghost use Rattle.graph_model.specs.declared.properties.Value.{Value as GraphValue};
+    ghost use Rattle.graph_model.specs.Limits.{most_properties};
     ghost use Rattle.graph_model.specs.Props.{KeysRise};
 
     ghost Value = { List (List ℕ × GraphValue) };
 
     ghost view = { λ a. map (λ p. (p.key, p.value)) a.items.items };
 
-    ghost invariant = { λ a. (vec_len a.items ≤ 256) × KeysRise (map (λ p. (p.key, p.value)) a.items.items) };
+    ghost invariant = { λ a. (vec_len a.items ≤ most_properties) × KeysRise (map (λ p. (p.key, p.value)) a.items.items) };
 }
 
 impl Props {
     ghost use Rattle.std.specs.Prelude.{◌≡◌, ◌≤◌, ◌<◌, ◌↔◌, List, [], length, map, IsTrue, IsFalse, Some, IfOk, IfErr, OnOk, OnErr, slice_get};
     ghost use Rattle.graph_model.specs.Props.{put_prop, has_key, KeysRise};
     ghost use Rattle.graph_model.specs.PutFault.{IsPutFault};
+    ghost use Rattle.graph_model.specs.Limits.{most_properties};
 
     /// No property. It takes no memory.
     pub fn new(alloc: Global) -> Props
@@ -84,7 +87,7 @@ impl Props {
     /// How many properties there are: at most 256.
     pub fn len(&self) -> usize
         ensures len { result ≡ length self.now }
-        ensures most { length self.now ≤ 256 }
+        ensures most { length self.now ≤ most_properties }
         ensures rise { KeysRise self.now }
     {
         self.items.len()
@@ -117,14 +120,14 @@ impl Props {
     pub fn insert(&mut self, key: Name, value: Value) -> Result<(), PropsFault>
         ensures ok { OnOk result (self.new ≡ put_prop (key, value) self.old) }
         ensures free { OnOk result (IsFalse (has_key key self.old)) }
-        ensures room { OnOk result (length self.old < 256) }
+        ensures room { OnOk result (length self.old < most_properties) }
         ensures cause { IfErr result (IsPutFault key self.old) }
         ensures err { OnErr result (self.new ≡ self.old) }
     {
         if self.has(&key) {
             return Err(PropsFault::Repeated);
         }
-        if self.items.len() == 256 {
+        if self.items.len() == MOST_PROPERTIES {
             return Err(PropsFault::Full);
         }
         put_item(&mut self.items, Prop { key, value })?;
