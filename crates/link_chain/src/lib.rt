@@ -16,6 +16,3 @@ pub type Memory = std::alloc::AllocError;
 
 /// The index that stands for no link and no item. It is past the end of them all.
 const NOWHERE: u32 = u32::MAX;
-
-#[cfg(test)]
-mod tests;

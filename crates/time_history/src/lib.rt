@@ -4,8 +4,6 @@
 mod history;
 mod search;
 mod span;
-#[cfg(test)]
-mod tests;
 mod updates;
 
 pub use history::History;
