@@ -2,12 +2,14 @@
 ghost use Rattle.std.specs.Prelude.{◌≡◌, ◌++◌, [], map, IfOk, OnOk, OnErr};
 ghost use Rattle.csv.specs.Records.{fields_of};
 ghost use Rattle.csv.specs.Writing.{default_writer, row_text};
+ghost use Rattle.event_rows.specs.Written.{no_text};
 
 use csv::{ByteRecord, Writer, WriterBuilder};
 use graph_model::Memory;
 use std::alloc::{AllocError, Global};
 
-/// Writes rows of any lengths into memory. A contract sees the text that they make.
+/// Writes rows of any lengths into memory. A contract sees the text that they make or, once memory
+/// was wanting, the beginning of no text.
 #[derive(Drop)]
 pub struct RowWriter {
     writer: Writer<Vec<u8>>,
@@ -41,10 +43,12 @@ impl RowWriter {
 
     /// Adds a row at the end.
     ///
-    /// Want of memory loses the whole text, and every further call fails.
+    /// Want of memory loses the whole text for good: whatever is added then, `into_text` fails.
     pub fn add(&mut self, row: &ByteRecord) -> Result<(), Memory>
-        ensures ok { OnOk result (self.new ≡ self.old ++ row_text default_writer (fields_of row.now)) }
-        ensures err { OnErr result (self.new ≡ []) }
+        ensures ok {
+            OnOk result (self.new ≡ self.old ++ row_text default_writer (fields_of row.now))
+        }
+        ensures err { OnErr result (self.new ≡ no_text) }
     {
         if self.failed {
             return Err(AllocError);
@@ -59,10 +63,13 @@ impl RowWriter {
 
     /// Adds a row of these fields at the end.
     ///
-    /// Want of memory loses the whole text, and every further call fails.
+    /// Want of memory loses the whole text for good: whatever is added then, `into_text` fails.
     pub fn add_fields(&mut self, fields: &[&[u8]]) -> Result<(), Memory>
-        ensures ok { OnOk result (self.new ≡ self.old ++ row_text default_writer (map (λ field. field.now) fields.now)) }
-        ensures err { OnErr result (self.new ≡ []) }
+        ensures ok {
+            let row = map (λ field. field.now) fields.now in
+            OnOk result (self.new ≡ self.old ++ row_text default_writer row)
+        }
+        ensures err { OnErr result (self.new ≡ no_text) }
     {
         if self.failed {
             return Err(AllocError);
@@ -75,16 +82,13 @@ impl RowWriter {
         Ok(())
     }
 
-    /// The text of all the rows.
+    /// The text of all the rows. It fails where memory was wanting for one of them.
     pub fn into_text(self) -> Result<Vec<u8>, Memory>
         ensures { IfOk result (λ text. text.items ≡ self) }
     {
-        if self.failed {
-            return Err(AllocError);
-        }
         match self.writer.into_inner() {
-            Ok(text) => Ok(text),
-            Err(_) => Err(AllocError),
+            Ok(text) if !self.failed => Ok(text),
+            _ => Err(AllocError),
         }
     }
 }

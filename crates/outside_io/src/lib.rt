@@ -6,16 +6,14 @@
 #![tactic(auto)]
 
 mod call_list;
-mod edge;
+mod real_files;
 mod file_list;
 mod in_memory;
-#[cfg(test)]
-mod tests;
 mod traits;
 mod whole;
 
 pub use call_list::Calls;
-pub use edge::{FileInputs, StreamSink};
+pub use real_files::{FileInputs, StreamSink};
 pub use file_list::{FileItem, Files};
 pub use in_memory::{MemoryInputs, MemorySink};
 pub use traits::{Failed, Inputs, Output, Sink};

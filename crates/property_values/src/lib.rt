@@ -13,6 +13,3 @@ pub use laws::{
 pub use property_fields::{PropFault, read_property};
 pub use values::{compare, print_value, type_of};
 pub use whole_numbers::read_whole;
-
-#[cfg(test)]
-mod tests;

@@ -14,6 +14,3 @@ pub use laws::{
 };
 pub use line::read_query;
 pub use refusal::QueryRefusal;
-
-#[cfg(test)]
-mod tests;

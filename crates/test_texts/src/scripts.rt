@@ -1,5 +1,5 @@
 //! Lines of scripts, and what they are refused for.
-use crate::{QueryRefusal, read_query};
+use query_script::{QueryRefusal, read_query};
 use std::alloc::{AllocError, Global};
 use std::test::Fail;
 

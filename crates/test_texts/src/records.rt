@@ -1,6 +1,8 @@
 //! Files of records, and what is said of each record.
-use crate::{Parsed, RecordReader, RowRefusal, event_text, read_row, span_text, type_text};
 use csv::ByteRecord;
+use event_rows::{
+    Parsed, RecordReader, RowRefusal, RowWriter, event_text, read_row, span_text, type_text,
+};
 use graph_model::Bounds;
 use std::alloc::{AllocError, Global};
 use std::test::Fail;
@@ -59,6 +61,20 @@ fn longest_records(rt: HostRuntime) -> Result<(), Fail> {
             "at {name} bytes and {properties} properties"
         );
     }
+    Ok(())
+}
+
+/// Rows of fields and rows of records stand one behind another.
+#[test]
+fn rows_make_a_text(rt: HostRuntime) -> Result<(), Fail> {
+    let mut row = ByteRecord::new(rt.alloc());
+    row.push_field(b"x, y")?;
+    let mut writer = RowWriter::new(rt.alloc());
+    writer.add_fields(&[b"graph", b"", b"3"])?;
+    writer.add(&row)?;
+    writer.add_fields(&[b""])?;
+    let text = writer.into_text()?;
+    assert_eq!(rt; text.as_slice(), b"graph,,3\n\"x, y\"\n\"\"\n".as_slice());
     Ok(())
 }
 

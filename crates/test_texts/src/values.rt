@@ -1,6 +1,6 @@
 //! What is read, compared and printed, at worked values.
-use crate::{PropFault, compare, print_value, read_property, read_whole, type_of};
 use graph_model::{Cmp, ValueType};
+use property_values::{PropFault, compare, print_value, read_property, read_whole, type_of};
 use std::alloc::{AllocError, Global};
 use std::test::Fail;
 
