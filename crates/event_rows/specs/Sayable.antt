@@ -7,6 +7,7 @@ use Rattle.graph_model.specs.declared.events.What.{What}
 use Rattle.graph_model.specs.declared.events.What.TheVariants.{Node as Update, Add, Delete}
 use Rattle.graph_model.specs.declared.events.Event.{Event}
 use Rattle.graph_model.specs.Interval.{Interval, earliest, latest, is_inside}
+use Rattle.graph_model.specs.Limits.{most_properties}
 use Rattle.graph_model.specs.PropertyField.{IsWritable, has_no_colon}
 use Rattle.graph_model.specs.Props.{KeysRise}
 use Rattle.graph_model.specs.Range.{is_moment}
@@ -20,16 +21,17 @@ is_edge_name edge = is_name edge.src && (is_name edge.dst && is_name edge.layer)
 abbrev pub IsSayableProp : List ℕ × Value → Type 0
 IsSayableProp p = IsTrue (is_name p.0) × IsTrue (has_no_colon p.0) × IsWritable p.1
 
--- at most 256 such properties, rising by key
+-- as many such properties as there may be at the most, rising by key
 abbrev pub AreSayableProps : List (List ℕ × Value) → Type 0
-AreSayableProps props = KeysRise props × (length props ≤ 256) × AllByRecursion IsSayableProp props
+AreSayableProps props = KeysRise props × (length props ≤ most_properties) × AllByRecursion IsSayableProp props
 
 abbrev pub IsSayableWhat : What → Type 0
 IsSayableWhat (Update name props) = IsTrue (is_name name) × AreSayableProps props
 IsSayableWhat (Add edge props) = IsTrue (is_edge_name edge) × AreSayableProps props
 IsSayableWhat (Delete edge) = IsTrue (is_edge_name edge)
 
--- an event with such names and properties, an order of 32 bits, and a time that an event may have and that is inside bounds
+-- an event with such names and properties, an order of 32 bits, and a time that an event may have
+-- and that is inside bounds
 abbrev pub IsSayable : Interval → Event → Type 0
 IsSayable bounds x = IsTrue (is_moment x.time) × IsTrue (is_inside bounds x.time) × (x.order < 2 ^ 32) × IsSayableWhat x.what
 

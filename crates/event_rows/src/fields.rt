@@ -9,7 +9,7 @@ ghost use Rattle.event_rows.specs.Parsing.{record_kind};
 
 use crate::parsed::RowKind;
 use csv::ByteRecord;
-use graph_model::Bounds;
+use graph_model::{Bounds, MOST_NAME_BYTES};
 use property_values::read_whole;
 use std::str;
 
@@ -63,7 +63,7 @@ pub fn text_at(fields: &ByteRecord, i: usize) -> &str
 pub fn is_named(text: &str) -> bool
     ensures { result ≡ is_name text.now }
 {
-    !text.is_empty() && text.len() <= 256
+    !text.is_empty() && text.len() <= MOST_NAME_BYTES
 }
 
 // A kind, where the record has its form.

@@ -7,8 +7,8 @@ use csv::{ByteRecord, Reader, ReaderBuilder};
 use graph_model::Memory;
 use std::alloc::{AllocError, Global};
 
-/// Reads the records of a file in memory, whatever their lengths, each into a record that the caller
-/// lends. A contract sees the records that are left, each a list of fields.
+/// Reads the records of a file in memory, whatever their lengths, each into a record that the
+/// caller lends. A contract sees the records that are left, each a list of fields.
 #[derive(Drop)]
 pub struct RecordReader<'a> {
     reader: Reader<&'a [u8]>,
@@ -27,8 +27,8 @@ impl<'a> std::marker::Model for RecordReader<'a> {
 }
 
 impl<'a> RecordReader<'a> {
-    /// A reader of all the records of a file, of which there are no more than bytes. A byte order mark
-    /// at its beginning is passed over.
+    /// A reader of all the records of a file, of which there are no more than bytes. A byte order
+    /// mark at its beginning is passed over.
     pub fn new(alloc: Global, bytes: &'a [u8]) -> RecordReader<'a>
         ensures records { result ≡ records_of bytes.now }
         ensures few { length result ≤ length bytes.now }
@@ -43,15 +43,13 @@ impl<'a> RecordReader<'a> {
         }
     }
 
-    /// Reads the next record into `row`, in place of what `row` had, and says whether there was one.
-    /// Where there was none, none is left, and so it stays.
+    /// Reads the next record into `row`, in place of what `row` had, and says whether there was
+    /// one. Where there was none, none is left, and so it stays.
     ///
     /// # Errors
     /// Want of memory, which ends the reading: no record is left.
     pub fn next(&mut self, row: &mut ByteRecord) -> Result<bool, Memory>
-        ensures record {
-            IfOk result (λ found. found ≡ true → self.old ≡ fields_of row.new ∷ self.new)
-        }
+        ensures record { IfOk result (λ found. found ≡ true → self.old ≡ fields_of row.new ∷ self.new) }
         ensures end { IfOk result (λ found. found ≡ false → self.old ≡ []) }
         ensures left { IfOk result (λ found. found ≡ false → self.new ≡ []) }
         ensures memory { OnErr result (self.new ≡ []) }

@@ -203,12 +203,13 @@ fn say(
     }
 }
 
-/// What a record says, whatever was read before it: `bounds` are those of the graph, and `first` says that it is record 1. The time of
-/// an event is inside the bounds, and only record 1 says bounds.
+/// What a record says, whatever was read before it: `bounds` are those of the graph, and `first`
+/// says that it is record 1. The time of an event is inside the bounds, and only record 1 says
+/// bounds.
 ///
 /// # Errors
-/// The first cause of refusal that holds, in the order of `RowRefusal`. `Memory`, for want of memory, comes only where the record says
-/// something or its properties alone are at fault.
+/// The first cause of refusal that holds, in the order of `RowRefusal`. `Memory`, for want of
+/// memory, comes only where the record says something or its properties alone are at fault.
 pub fn read_row(
     alloc: Global,
     fields: &ByteRecord,

@@ -45,9 +45,7 @@ impl RowWriter {
     ///
     /// Want of memory loses the whole text for good: whatever is added then, `into_text` fails.
     pub fn add(&mut self, row: &ByteRecord) -> Result<(), Memory>
-        ensures ok {
-            OnOk result (self.new ≡ self.old ++ row_text default_writer (fields_of row.now))
-        }
+        ensures ok { OnOk result (self.new ≡ self.old ++ row_text default_writer (fields_of row.now)) }
         ensures err { OnErr result (self.new ≡ no_text) }
     {
         if self.failed {
@@ -65,10 +63,8 @@ impl RowWriter {
     ///
     /// Want of memory loses the whole text for good: whatever is added then, `into_text` fails.
     pub fn add_fields(&mut self, fields: &[&[u8]]) -> Result<(), Memory>
-        ensures ok {
-            let row = map (λ field. field.now) fields.now in
-            OnOk result (self.new ≡ self.old ++ row_text default_writer row)
-        }
+        ensures ok { let row = map (λ field. field.now) fields.now in
+            OnOk result (self.new ≡ self.old ++ row_text default_writer row) }
         ensures err { OnErr result (self.new ≡ no_text) }
     {
         if self.failed {

@@ -1,21 +1,22 @@
 //! The outside of a program: files that it reads by name, and a place that it writes to.
 //!
-//! A program that is written over [`Inputs`] and [`Sink`] is proved for every outside that keeps their contracts:
-//! for one in memory, which tells what it holds, and for real files and writers, of whose content nothing is said.
-//! A call fails only where a count of faults rose, or where a named file is not there.
+//! A program that is written over [`Inputs`] and [`Sink`] is proved for every outside that keeps
+//! their contracts: for one in memory, which tells what it holds, and for real files and writers,
+//! of whose content nothing is said. A call fails only where a count of faults rose, or where a
+//! named file is not there.
 #![tactic(auto)]
 
 mod call_list;
-mod real_files;
 mod file_list;
 mod in_memory;
+mod real_files;
 mod traits;
 mod whole;
 
 pub use call_list::Calls;
-pub use real_files::{FileInputs, StreamSink};
 pub use file_list::{FileItem, Files};
 pub use in_memory::{MemoryInputs, MemorySink};
+pub use real_files::{FileInputs, StreamSink};
 pub use traits::{Failed, Inputs, Output, Sink};
 pub use whole::{ReadFault, read_all, write_all};
 

@@ -94,8 +94,8 @@ impl<'r, R: Files> Inputs for FileInputs<'r, R> {
 
 /// A writer of std as a sink. It tells nothing of what was written.
 ///
-/// An error of the writer is a fault, and so is a write that takes no byte of a piece that has some. A writer that
-/// holds bytes back is its owner's to flush.
+/// An error of the writer is a fault, and so is a write that takes no byte of a piece that has
+/// some. A writer that holds bytes back is its owner's to flush.
 #[derive(Drop)]
 pub struct StreamSink<W: Write> {
     writer: W,

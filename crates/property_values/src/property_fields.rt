@@ -6,7 +6,7 @@ ghost use Rattle.graph_model.specs.TextForm.{is_name};
 ghost use Rattle.graph_model.specs.WholeNumber.{whole_of};
 
 use crate::whole_numbers::read_whole;
-use graph_model::{Name, NameFault, Text, TextFault, Value};
+use graph_model::{MOST_NAME_BYTES, Name, NameFault, Text, TextFault, Value};
 use std::alloc::Global;
 
 /// Why a property was not read.
@@ -19,8 +19,8 @@ pub enum PropFault {
 
 /// The property that a field writes: a key, the first `:` of the field, and a value.
 ///
-/// The key is a name of 1 to 256 bytes. The value is `i=` and a whole number, `b=` and `true` or `false`, or `s=` and a text of at
-/// most 4,096 bytes, which may be empty and may hold further `:`.
+/// The key is a name of 1 to 256 bytes. The value is `i=` and a whole number, `b=` and `true` or
+/// `false`, or `s=` and a text of at most 4,096 bytes, which may be empty and may hold further `:`.
 pub fn read_property(alloc: Global, field: &str) -> Result<(Name, Value), PropFault>
     ensures property { IfOk result (λ property. property_of field.now ≡ Some property) }
     ensures form { IsErrOf result PropFault.Form ↔ (property_of field.now ≡ None) }
@@ -43,7 +43,7 @@ pub fn read_property(alloc: Global, field: &str) -> Result<(Name, Value), PropFa
 fn may_be_name(text: &str) -> bool
     ensures { result ≡ is_name text.now }
 {
-    !text.is_empty() && text.len() <= 256
+    !text.is_empty() && text.len() <= MOST_NAME_BYTES
 }
 
 /// The value that a text writes, by the letter before its `=`.

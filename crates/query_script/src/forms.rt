@@ -14,19 +14,23 @@ use graph_model::{self, Ask, Cmp, Direction, Each, EdgeName, Name, NameList, Op}
 use serde_json::Value;
 use std::alloc::Global;
 
-// Nothing behind the word.
-fn alone(items: &[Value]) -> Result<(), QueryRefusal>
-    ensures { Gives result (alone_of tt (map data_of items.now)) }
+// What a word means that has nothing behind it.
+fn alone<A: Drop>(items: &[Value], meant: A) -> Result<A, QueryRefusal>
+    ensures { Gives result (alone_of meant (map data_of items.now)) }
 {
     if items.len() != 1 {
         return Err(QueryRefusal::Shape);
     }
-    Ok(())
+    Ok(meant)
 }
 
 // The one item behind the word.
 fn one(items: &[Value]) -> Result<&Value, QueryRefusal>
-    ensures { MatchResult result (λ item. (length items.now ≡ 2) × (place_of 1 (map data_of items.now) ≡ data_of item.now)) (λ e. (length items.now ≢ 2) × (e ≡ QueryRefusal.Shape)) }
+    ensures { MatchResult result
+        (λ item.
+        (length items.now ≡ 2)
+        × (place_of 1 (map data_of items.now) ≡ data_of item.now))
+        (λ e. (length items.now ≢ 2) × (e ≡ QueryRefusal.Shape)) }
 {
     if items.len() != 2 {
         return Err(QueryRefusal::Shape);
@@ -72,7 +76,12 @@ fn one_core_number(items: &[Value]) -> Result<u32, QueryRefusal>
 
 // The two items behind the word.
 fn two(items: &[Value]) -> Result<(&Value, &Value), QueryRefusal>
-    ensures { MatchResult result (λ found. (length items.now ≡ 3) × (place_of 1 (map data_of items.now) ≡ data_of found.0.now) × (place_of 2 (map data_of items.now) ≡ data_of found.1.now)) (λ e. (length items.now ≢ 3) × (e ≡ QueryRefusal.Shape)) }
+    ensures { MatchResult result
+        (λ found.
+        (length items.now ≡ 3)
+        × (place_of 1 (map data_of items.now) ≡ data_of found.0.now)
+        × (place_of 2 (map data_of items.now) ≡ data_of found.1.now))
+        (λ e. (length items.now ≢ 3) × (e ≡ QueryRefusal.Shape)) }
 {
     if items.len() != 3 {
         return Err(QueryRefusal::Shape);
@@ -138,7 +147,11 @@ fn edge(names: EdgeNames) -> EdgeName
 // The names of an edge in the first three places behind the word.
 fn edge_names(alloc: Global, items: &[Value]) -> Result<EdgeNames, QueryRefusal>
     requires { 3 < length items.now }
-    ensures { Gives result (both_of (both_of (name_of (place_of 1 (map data_of items.now))) (name_of (place_of 2 (map data_of items.now)))) (name_of (place_of 3 (map data_of items.now)))) }
+    ensures { Gives result (both_of
+        (both_of
+        (name_of (place_of 1 (map data_of items.now)))
+        (name_of (place_of 2 (map data_of items.now))))
+        (name_of (place_of 3 (map data_of items.now)))) }
 {
     let ends = both(name(alloc, place(items, 1)), name(alloc, place(items, 2)));
     both(ends, name(alloc, place(items, 3)))
@@ -196,10 +209,7 @@ fn view_by(alloc: Global, items: &[Value]) -> Result<Op, QueryRefusal>
             let ((key, cmp), value) = test(alloc, items)?;
             Ok(Op::NodesWhere(key, cmp, value))
         }
-        "valid" => {
-            alone(items)?;
-            Ok(Op::Valid)
-        }
+        "valid" => alone(items, Op::Valid),
         _ => Err(QueryRefusal::Shape),
     }
 }
@@ -230,34 +240,16 @@ fn ask_by(alloc: Global, items: &[Value]) -> Result<Ask, QueryRefusal>
     ensures { Gives result (by_word ask_forms (word_of (map data_of items.now)) (map data_of items.now)) }
 {
     match word(items) {
-        "nodes" => {
-            alone(items)?;
-            Ok(Ask::Nodes)
-        }
-        "edges" => {
-            alone(items)?;
-            Ok(Ask::Edges)
-        }
-        "events" => {
-            alone(items)?;
-            Ok(Ask::Events)
-        }
-        "degree" => {
-            alone(items)?;
-            Ok(Ask::Degree)
-        }
+        "nodes" => alone(items, Ask::Nodes),
+        "edges" => alone(items, Ask::Edges),
+        "events" => alone(items, Ask::Events),
+        "degree" => alone(items, Ask::Degree),
         "hops" => hops(alloc, items),
-        "weak" => {
-            alone(items)?;
-            Ok(Ask::Weak)
-        }
+        "weak" => alone(items, Ask::Weak),
         "out_component" => Ok(Ask::OutComponent(one_name(alloc, items)?)),
         "in_component" => Ok(Ask::InComponent(one_name(alloc, items)?)),
         "core" => Ok(Ask::Core(one_core_number(items)?)),
-        "core_numbers" => {
-            alone(items)?;
-            Ok(Ask::CoreNumbers)
-        }
+        "core_numbers" => alone(items, Ask::CoreNumbers),
         "arrival" => {
             let (start, seeds) = moment_and_list(alloc, items)?;
             Ok(Ask::Arrival(start, seeds))
@@ -276,10 +268,7 @@ fn ask_by(alloc: Global, items: &[Value]) -> Result<Ask, QueryRefusal>
             let (names, at) = three_names_and_moment(alloc, items)?;
             Ok(Ask::EdgeAlive(edge(names), at))
         }
-        "materialise" => {
-            alone(items)?;
-            Ok(Ask::Materialise)
-        }
+        "materialise" => alone(items, Ask::Materialise),
         _ => Err(QueryRefusal::Shape),
     }
 }

@@ -15,19 +15,17 @@ ghost use Rattle.query_script.specs.Refusing.{Gives, Refuses};
 use crate::forms::{ask, each, view};
 use crate::places::list;
 use crate::refusal::{QueryRefusal, both};
-use graph_model::{Ask, Each, Op, OpList, Query};
+use graph_model::{Ask, Each, MOST_VIEWS, Op, OpList, Query};
 use serde_json::{Map, Value};
 use std::alloc::Global;
-
-/// The most views of a query.
-const MOST_VIEWS: usize = 64;
 
 // Views, and one more behind them.
 fn with_view(
     views: Result<OpList, QueryRefusal>,
     view: Result<Op, QueryRefusal>,
 ) -> Result<OpList, QueryRefusal>
-    ensures { (read : Result (List View) Why) (more : Result View Why) → Gives views read → Gives view more → Gives result (with_last read more) }
+    ensures { (read : Result (List View) Why) (more : Result View Why)
+        → Gives views read → Gives view more → Gives result (with_last read more) }
 {
     let (mut views, view) = both(views, view)?;
     views.push(view)?;
@@ -154,10 +152,12 @@ fn read(alloc: Global, line: &[u8]) -> Result<Query, QueryRefusal>
     }
 }
 
-/// The query that a line of a script says. Repeated keys of an object mean what `serde_json`'s reading holds.
+/// The query that a line of a script says. Repeated keys of an object mean what `serde_json`'s
+/// reading holds.
 ///
 /// # Errors
-/// The first cause of refusal that holds over the whole line, in the order of `QueryRefusal`; `Memory`, for want of memory, at any line.
+/// The first cause of refusal that holds over the whole line, in the order of `QueryRefusal`;
+/// `Memory`, for want of memory, at any line.
 pub fn read_query(alloc: Global, line: &[u8]) -> Result<Query, QueryRefusal>
     ensures said { IfOk result (λ query. query_said line.now ≡ Ok query) }
     ensures range { IfOk result (λ query. IsTrue (query_in_range query)) }

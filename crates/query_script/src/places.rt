@@ -7,12 +7,14 @@ ghost use Rattle.graph_model.specs.Script.{QueryRefusal as Why};
 ghost use Rattle.query_script.specs.Refusing.{Gives};
 
 use crate::refusal::{QueryRefusal, both};
-use graph_model::{self, Bounds, Cmp, Direction, Name, NameFault, NameList, Text, TextFault};
+use graph_model::{
+    self, Bounds, Cmp, Direction, MOST_NODES, Name, NameFault, NameList, Text, TextFault,
+};
 use serde_json::Value;
 use std::alloc::Global;
 
 /// The greatest number of a core.
-const MOST_CORE: u64 = 1_048_576;
+const MOST_CORE: u64 = MOST_NODES as u64;
 
 /// The item at a place, counted from 0.
 pub fn place(items: &[Value], i: usize) -> &Value
@@ -130,7 +132,8 @@ fn with_name(
     names: Result<NameList, QueryRefusal>,
     name: Result<Name, QueryRefusal>,
 ) -> Result<NameList, QueryRefusal>
-    ensures { (read : Result (List (List ℕ)) Why) (more : Result (List ℕ) Why) → Gives names read → Gives name more → Gives result (with_last read more) }
+    ensures { (read : Result (List (List ℕ)) Why) (more : Result (List ℕ) Why)
+        → Gives names read → Gives name more → Gives result (with_last read more) }
 {
     let (mut names, name) = both(names, name)?;
     names.push(name)?;

@@ -13,11 +13,12 @@ pub enum QueryRefusal {
     /// The line is not one JSON value, as `serde_json` reads it, or is not UTF-8.
     #[error("json")]
     Json,
-    /// The value is not an object, it has another key than `ask`, `views` and `each`, `ask` is missing, or one of the three is of no
-    /// form, whatever numbers stand in it.
+    /// The value is not an object, it has another key than `ask`, `views` and `each`, `ask` is
+    /// missing, or one of the three is of no form, whatever numbers stand in it.
     #[error("shape")]
     Shape,
-    /// A number is not held as a whole number of 64 signed bits, or is outside the range of its place.
+    /// A number is not held as a whole number of 64 signed bits, or is outside the range of its
+    /// place.
     #[error("number")]
     Number,
     /// There are more than 64 views.
@@ -39,7 +40,8 @@ impl From<AllocError> for QueryRefusal {
     }
 }
 
-// Of two refusals the one that is judged first, and want of memory before all: what would have been read is not known then.
+// Of two refusals the one that is judged first, and want of memory before all: what would have been
+// read is not known then.
 fn first(refusal: QueryRefusal, other: QueryRefusal) -> QueryRefusal
     ensures { StandsForBoth result refusal other }
 {

@@ -1,5 +1,6 @@
-//! Texts that are read and written, and the files in which they stand, as tests: they stand apart, so that the crates
-//! of which they tell are proved once, and a change of a test proves nothing else again.
+//! Texts that are read and written, and the files in which they stand, as tests: they stand apart,
+//! so that the crates of which they tell are proved once, and a change of a test proves nothing
+//! else again.
 #![tactic(auto)]
 
 #[cfg(test)]

@@ -7,8 +7,9 @@ use graph_model::Bounds;
 use std::alloc::{AllocError, Global};
 use std::test::Fail;
 
-/// Each file with the bounds behind its first record, and for each of its records the row that is written of what it says, or the
-/// cause of its refusal. A deletion, a second type, and a value of another type are refused only by those who know what was read before.
+/// Each file with the bounds behind its first record, and for each of its records the row that is
+/// written of what it says, or the cause of its refusal. A deletion, a second type, and a value of
+/// another type are refused only by those who know what was read before.
 #[test]
 fn records_say_rows(rt: HostRuntime) -> Result<(), Fail> {
     for (hi, events, rows) in [
