@@ -1,5 +1,5 @@
 -- A word that is in no form of a table.
-use Rattle.std.proofs.Common.{◌≡◌, ◌≢◌, ℕ, List, [], ◌∷◌, Result, Err, Bool, true, false, refl, inl, inr, cond}
+use Rattle.std.proofs.Common.{◌≡◌, ◌≢◌, ℕ, List, [], ◌∷◌, ◌++◌, Result, Err, Bool, true, false, refl, inl, inr, cond}
 use Rattle.std.proofs.lemmas.Bool.{cases_Bool}
 use Rattle.std.proofs.lemmas.Slice.Eq.{bytes_eq-Decides}
 use Rattle.std.specs.Str.{bytes_eq}
@@ -22,3 +22,9 @@ pub by_word-missed : {A : Type 0} (forms : Forms A) (word : List ℕ) (items : L
 by_word-missed [] word items missed = refl
 by_word-missed (form ∷ forms) word items missed =
     passed (bytes_eq word form.0) (form.1 items) (by_word forms word items) (Err Shape) (bytes_eq-false word form.0 missed.0) (by_word-missed forms word items missed.1)
+
+-- a word that is in no form of the front of a table is looked up behind it
+pub by_word-behind : {A : Type 0} (front back : Forms A) (word : List ℕ) (items : List Data) → Misses front word → by_word (front ++ back) word items ≡ by_word back word items
+by_word-behind [] back word items missed = refl
+by_word-behind (form ∷ forms) back word items missed =
+    passed (bytes_eq word form.0) (form.1 items) (by_word (forms ++ back) word items) (by_word back word items) (bytes_eq-false word form.0 missed.0) (by_word-behind forms back word items missed.1)

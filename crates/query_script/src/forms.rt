@@ -1,10 +1,11 @@
 // The forms of views, questions and windows.
-ghost use Rattle.std.specs.Prelude.{◌≡◌, ◌≢◌, ◌<◌, length, map, MatchResult};
+ghost use Rattle.std.specs.Prelude.{◌≡◌, ◌≢◌, ◌<◌, length, map, MatchResult, Some};
 ghost use Rattle.serde_json.specs.View.{view as data_of};
-ghost use Rattle.graph_model.specs.QueryForms.{alone as alone_of, ask_forms, ask_said, by_word, each_forms, each_said, edge_from, four as four_of, hops as hops_of, one as one_of, rolling as rolling_of, three as three_of, two as two_of, view_forms, view_said};
-ghost use Rattle.graph_model.specs.QueryPlaces.{bound as bound_of, comparison as comparison_of, core_number as core_number_of, direction as direction_of, moment as moment_of, name as name_of, names as names_of, place as place_of, step as step_of, value as value_of, word_of};
+ghost use Rattle.graph_model.specs.QueryForms.{alone as alone_of, ask_forms, ask_said, by_forms, each_forms, each_said, edge_from, four as four_of, hops as hops_of, one as one_of, rolling as rolling_of, three as three_of, two as two_of, view_forms, view_said};
+ghost use Rattle.graph_model.specs.QueryPlaces.{bound as bound_of, comparison as comparison_of, core_number as core_number_of, direction as direction_of, moment as moment_of, name as name_of, names as names_of, place as place_of, step as step_of, value as value_of};
 ghost use Rattle.graph_model.specs.QueryOutcome.{both as both_of};
 ghost use Rattle.query_script.specs.Refusing.{Gives};
+ghost use Rattle.query_script.specs.Tables.{history_forms, keeping_forms};
 
 use crate::places::{
     bound, comparison, core_number, direction, list, moment, name, names, place, step, value, word,
@@ -184,18 +185,11 @@ fn three_names_and_moment(alloc: Global, items: &[Value]) -> Result<(EdgeNames, 
     both(edge_names(alloc, items), moment(place(items, 4)))
 }
 
-// The view of the word.
-fn view_by(alloc: Global, items: &[Value]) -> Result<Op, QueryRefusal>
-    ensures { Gives result (by_word view_forms (word_of (map data_of items.now)) (map data_of items.now)) }
+// The view of the word that keeps a part of the graph.
+fn keeping_view_by(alloc: Global, items: &[Value]) -> Result<Op, QueryRefusal>
+    ensures { Gives result (by_forms keeping_forms (Some (map data_of items.now))) }
 {
     match word(items) {
-        "window" => {
-            let (from, to) = two_bounds(items)?;
-            Ok(Op::Window(from, to))
-        }
-        "at" => Ok(Op::At(one_moment(items)?)),
-        "before" => Ok(Op::Before(one_bound(items)?)),
-        "after" => Ok(Op::After(one_moment(items)?)),
         "layers" => Ok(Op::Layers(one_list(alloc, items)?)),
         "exclude_layers" => Ok(Op::ExcludeLayers(one_list(alloc, items)?)),
         "subgraph" => Ok(Op::Subgraph(one_list(alloc, items)?)),
@@ -211,6 +205,22 @@ fn view_by(alloc: Global, items: &[Value]) -> Result<Op, QueryRefusal>
         }
         "valid" => alone(items, Op::Valid),
         _ => Err(QueryRefusal::Shape),
+    }
+}
+
+// The view of the word.
+fn view_by(alloc: Global, items: &[Value]) -> Result<Op, QueryRefusal>
+    ensures { Gives result (by_forms view_forms (Some (map data_of items.now))) }
+{
+    match word(items) {
+        "window" => {
+            let (from, to) = two_bounds(items)?;
+            Ok(Op::Window(from, to))
+        }
+        "at" => Ok(Op::At(one_moment(items)?)),
+        "before" => Ok(Op::Before(one_bound(items)?)),
+        "after" => Ok(Op::After(one_moment(items)?)),
+        _ => keeping_view_by(alloc, items),
     }
 }
 
@@ -235,25 +245,11 @@ fn hops(alloc: Global, items: &[Value]) -> Result<Ask, QueryRefusal>
     Ok(Ask::Hops(from, way))
 }
 
-// The question of the word.
-fn ask_by(alloc: Global, items: &[Value]) -> Result<Ask, QueryRefusal>
-    ensures { Gives result (by_word ask_forms (word_of (map data_of items.now)) (map data_of items.now)) }
+// The question of the word about one node or edge, or for the records.
+fn history_ask_by(alloc: Global, items: &[Value]) -> Result<Ask, QueryRefusal>
+    ensures { Gives result (by_forms history_forms (Some (map data_of items.now))) }
 {
     match word(items) {
-        "nodes" => alone(items, Ask::Nodes),
-        "edges" => alone(items, Ask::Edges),
-        "events" => alone(items, Ask::Events),
-        "degree" => alone(items, Ask::Degree),
-        "hops" => hops(alloc, items),
-        "weak" => alone(items, Ask::Weak),
-        "out_component" => Ok(Ask::OutComponent(one_name(alloc, items)?)),
-        "in_component" => Ok(Ask::InComponent(one_name(alloc, items)?)),
-        "core" => Ok(Ask::Core(one_core_number(items)?)),
-        "core_numbers" => alone(items, Ask::CoreNumbers),
-        "arrival" => {
-            let (start, seeds) = moment_and_list(alloc, items)?;
-            Ok(Ask::Arrival(start, seeds))
-        }
         "node_history" => Ok(Ask::NodeHistory(one_name(alloc, items)?)),
         "edge_history" => Ok(Ask::EdgeHistory(edge(three_names(alloc, items)?))),
         "node_value" => {
@@ -270,6 +266,29 @@ fn ask_by(alloc: Global, items: &[Value]) -> Result<Ask, QueryRefusal>
         }
         "materialise" => alone(items, Ask::Materialise),
         _ => Err(QueryRefusal::Shape),
+    }
+}
+
+// The question of the word.
+fn ask_by(alloc: Global, items: &[Value]) -> Result<Ask, QueryRefusal>
+    ensures { Gives result (by_forms ask_forms (Some (map data_of items.now))) }
+{
+    match word(items) {
+        "nodes" => alone(items, Ask::Nodes),
+        "edges" => alone(items, Ask::Edges),
+        "events" => alone(items, Ask::Events),
+        "degree" => alone(items, Ask::Degree),
+        "hops" => hops(alloc, items),
+        "weak" => alone(items, Ask::Weak),
+        "out_component" => Ok(Ask::OutComponent(one_name(alloc, items)?)),
+        "in_component" => Ok(Ask::InComponent(one_name(alloc, items)?)),
+        "core" => Ok(Ask::Core(one_core_number(items)?)),
+        "core_numbers" => alone(items, Ask::CoreNumbers),
+        "arrival" => {
+            let (start, seeds) = moment_and_list(alloc, items)?;
+            Ok(Ask::Arrival(start, seeds))
+        }
+        _ => history_ask_by(alloc, items),
     }
 }
 
@@ -297,7 +316,7 @@ fn rolling(items: &[Value]) -> Result<Each, QueryRefusal>
 
 // The windows of the word.
 fn each_by(items: &[Value]) -> Result<Each, QueryRefusal>
-    ensures { Gives result (by_word each_forms (word_of (map data_of items.now)) (map data_of items.now)) }
+    ensures { Gives result (by_forms each_forms (Some (map data_of items.now))) }
 {
     match word(items) {
         "rolling" => rolling(items),
