@@ -1,5 +1,5 @@
 -- What is written for an events file and a script.
-use Rattle.std.specs.Prelude.{ℕ, Bool, true, false, ◌+◌, ◌==◌, ◌&&◌, ◌||◌, ◌≡◌, List, [], ◌∷◌, ◌++◌, codes, length, map, Result, Ok, Err, is_ok}
+use Rattle.std.specs.Prelude.{ℕ, Bool, true, false, ◌+◌, ◌==◌, ◌&&◌, ◌||◌, ◌≡◌, List, [], ◌∷◌, ◌++◌, codes, length, map, Option, Result, Ok, Err, is_ok}
 use Rattle.std.specs.List.{list_all}
 use Rattle.std.specs.Fmt.{decimal, signed_decimal}
 use Rattle.graph_model.specs.declared.events.Model.{Model}
@@ -47,35 +47,44 @@ ask_word Updates = codes "updates"
 abbrev pub refused_row : ℕ × RecordRefusal → List (List ℕ)
 refused_row r = codes "refused" ∷ decimal r.0 ∷ record_refusal_name r.1 ∷ []
 
--- the row of a graph: its model, its bounds, and how many events were accepted and how many records refused
+-- the row of a graph: its model, its bounds, and how many events were accepted and how many records
+-- refused
 abbrev pub graph_row : Model → Interval → ℕ → ℕ → List (List ℕ)
-graph_row model bounds accepted refused = codes "graph" ∷ model_word model ∷ signed_decimal bounds.lo ∷ signed_decimal bounds.hi ∷ decimal accepted ∷ decimal refused ∷ []
+graph_row model bounds accepted refused = codes "graph" ∷ model_word model
+    ∷ signed_decimal bounds.lo ∷ signed_decimal bounds.hi ∷ decimal accepted ∷ decimal refused ∷ []
 
 -- the row of a refused query, by its line
 abbrev pub refused_query_row : ℕ → QueryRefusal → List (List ℕ)
-refused_query_row number refusal = codes "query" ∷ decimal number ∷ codes "refused" ∷ query_refusal_name refusal ∷ []
+refused_query_row number refusal =
+    codes "query" ∷ decimal number ∷ codes "refused" ∷ query_refusal_name refusal ∷ []
 
 -- the row of an answered query: its line, its question, and how many worlds it is answered on
 abbrev pub query_row : ℕ → Ask → ℕ → List (List ℕ)
-query_row number ask worlds = codes "query" ∷ decimal number ∷ ask_word ask ∷ decimal worlds ∷ []
+query_row number ask worlds =
+    codes "query" ∷ decimal number ∷ ask_word ask ∷ decimal worlds ∷ []
 
 -- the row of a world: its bounds, and how many rows of an answer follow
 abbrev pub world_row : Interval → ℕ → List (List ℕ)
-world_row bounds rows = codes "world" ∷ signed_decimal bounds.lo ∷ signed_decimal bounds.hi ∷ decimal rows ∷ []
+world_row bounds rows =
+    codes "world" ∷ signed_decimal bounds.lo ∷ signed_decimal bounds.hi ∷ decimal rows ∷ []
 
 -- the part of one world: its row, and the rows that answer the question about it
 abbrev pub IsPart : World → Ask → List (List (List ℕ)) → Type 0
-IsPart w ask rows = (answer : List Row) × IsAnswer w ask answer × (rows ≡ world_row w.bounds (length answer) ∷ map row_fields answer)
+IsPart w ask rows = (answer : List Row) × IsAnswer w ask answer
+    × (rows ≡ world_row w.bounds (length answer) ∷ map row_fields answer)
 
 -- the parts of worlds, one behind another
 abbrev pub AreParts : List World → Ask → List (List (List ℕ)) → Type 0
 AreParts [] ask rows = rows ≡ []
-AreParts (w ∷ more) ask rows = (part rest : List (List (List ℕ))) × IsPart w ask part × AreParts more ask rest × (rows ≡ part ++ rest)
+AreParts (w ∷ more) ask rows = (part rest : List (List (List ℕ)))
+    × IsPart w ask part × AreParts more ask rest × (rows ≡ part ++ rest)
 
--- the block of an answered query: its row, and a part for each world that its views and its windows leave of the graph
+-- the block of an answered query: its row, and a part for each world that its views and its windows
+-- leave of the graph
 abbrev pub IsAnswerBlock : World → ℕ → Query → List (List (List ℕ)) → Type 0
 IsAnswerBlock w number query rows = let worlds = windows (apply query.views w) query.each in
-    (parts : List (List (List ℕ))) × AreParts worlds query.ask parts × (rows ≡ query_row number query.ask (length worlds) ∷ parts)
+    (parts : List (List (List ℕ))) × AreParts worlds query.ask parts
+    × (rows ≡ query_row number query.ask (length worlds) ∷ parts)
 
 -- the block of a query, or of its refusal
 abbrev pub IsQueryBlock : World → ℕ → Result Query QueryRefusal → List (List (List ℕ)) → Type 0
@@ -87,25 +96,35 @@ abbrev pub IsBlockOf : World → ℕ → Bool → Result Query QueryRefusal → 
 IsBlockOf w number true query rows = rows ≡ []
 IsBlockOf w number false query rows = IsQueryBlock w number query rows
 
-abbrev pub IsBlock : (Query → Bool) → World → ℕ → List ℕ → List (List (List ℕ)) → Type 0
-IsBlock is_answered w number line rows = IsBlockOf w number (is_blank line) (query_of is_answered line) rows
+abbrev pub IsBlock : (World → Query → Option QueryRefusal) → World → ℕ → List ℕ
+    → List (List (List ℕ)) → Type 0
+IsBlock refuses w number line rows =
+    IsBlockOf w number (is_blank line) (query_of refuses w line) rows
 
 -- the blocks of lines, of which the first has this number
-abbrev pub AreBlocks : (Query → Bool) → World → ℕ → List (List ℕ) → List (List (List ℕ)) → Type 0
-AreBlocks is_answered w number [] rows = rows ≡ []
-AreBlocks is_answered w number (line ∷ lines) rows = (block rest : List (List (List ℕ))) × IsBlock is_answered w number line block
-    × AreBlocks is_answered w (number + 1) lines rest × (rows ≡ block ++ rest)
+abbrev pub AreBlocks : (World → Query → Option QueryRefusal) → World → ℕ → List (List ℕ)
+    → List (List (List ℕ)) → Type 0
+AreBlocks refuses w number [] rows = rows ≡ []
+AreBlocks refuses w number (line ∷ lines) rows = (block rest : List (List (List ℕ)))
+    × IsBlock refuses w number line block
+    × AreBlocks refuses w (number + 1) lines rest × (rows ≡ block ++ rest)
 
--- the output, where these queries are answered: the rows of refused records, the row of the graph, and the block of each line
-unfoldable pub IsOutput : (Query → Bool) → Model → List ℕ → List ℕ → List ℕ → Type 0
-IsOutput is_answered model events script text = let r = reading model events in
-    (blocks : List (List (List ℕ))) × AreBlocks is_answered (world_of model r) 1 (lines_of script) blocks
-    × (text ≡ rows_text (map refused_row r.refused ++ (graph_row model r.bounds (length r.accepted) (length r.refused) ∷ blocks)))
+-- the output, where these queries are refused: the rows of refused records, the row of the graph,
+-- and the block of each line
+unfoldable pub IsOutput : (World → Query → Option QueryRefusal) → Model → List ℕ → List ℕ → List ℕ
+    → Type 0
+IsOutput refuses model events script text = let r = reading model events in
+    (blocks : List (List (List ℕ)))
+    × AreBlocks refuses (world_of model r) 1 (lines_of script) blocks
+    × (text ≡ rows_text (map refused_row r.refused
+    ++ (graph_row model r.bounds (length r.accepted) (length r.refused) ∷ blocks)))
 
--- a line is skipped, or its query is not refused
-abbrev pub is_clean_line : (Query → Bool) → List ℕ → Bool
-is_clean_line is_answered line = is_blank line || is_ok (query_of is_answered line)
+-- a line is skipped, or its query is not refused where it is asked of a world
+abbrev pub is_clean_line : (World → Query → Option QueryRefusal) → World → List ℕ → Bool
+is_clean_line refuses w line = is_blank line || is_ok (query_of refuses w line)
 
 -- no record and no query is refused
-unfoldable pub is_clean : (Query → Bool) → Model → List ℕ → List ℕ → Bool
-is_clean is_answered model events script = (length (reading model events).refused == 0) && list_all (is_clean_line is_answered) (lines_of script)
+unfoldable pub is_clean : (World → Query → Option QueryRefusal) → Model → List ℕ → List ℕ → Bool
+is_clean refuses model events script = let r = reading model events in
+    (length r.refused == 0)
+    && list_all (is_clean_line refuses (world_of model r)) (lines_of script)

@@ -12,7 +12,8 @@ use Rattle.graph_model.specs.declared.queries.Query.{Query}
 use Rattle.graph_model.specs.QueryForms.{ask_said, each_said, view_said}
 use Rattle.graph_model.specs.QueryOutcome.{all_of, both, made}
 use Rattle.graph_model.specs.QueryPlaces.{as_list}
-use Rattle.graph_model.specs.Script.{QueryRefusal, Json, Shape, Depth, Unbuilt}
+use Rattle.graph_model.specs.Script.{QueryRefusal, Json, Shape, Depth}
+use Rattle.graph_model.specs.World.{World}
 
 -- the keys of an object
 abbrev pub keys_of : Members → List (List ℕ)
@@ -21,7 +22,8 @@ keys_of (member key d members) = key ∷ keys_of members
 
 -- a key that a query may have
 abbrev pub is_query_key : List ℕ → Bool
-is_query_key key = bytes_eq key (codes "ask") || (bytes_eq key (codes "views") || bytes_eq key (codes "each"))
+is_query_key key =
+    bytes_eq key (codes "ask") || (bytes_eq key (codes "views") || bytes_eq key (codes "each"))
 
 -- an object without other keys
 abbrev pub has_query_keys : Option Members → Bool
@@ -56,7 +58,8 @@ query_from p = record { ask = p.0.0; views = p.0.1; each = p.1 }
 
 -- what stands behind the three keys
 abbrev pub parts_said : Data → Result ((Ask × List Op) × Option Each) QueryRefusal
-parts_said d = both (both (ask_in (get (codes "ask") d)) (views_in (get (codes "views") d))) (each_in (get (codes "each") d))
+parts_said d = both (both (ask_in (get (codes "ask") d)) (views_in (get (codes "views") d)))
+    (each_in (get (codes "each") d))
 
 -- the query that a value says
 abbrev pub value_said : Data → Result Query QueryRefusal
@@ -70,11 +73,18 @@ reading_said (Some d) = value_said d
 abbrev pub query_said : List ℕ → Result Query QueryRefusal
 query_said line = if is_utf8 line then reading_said (read line) else Err Json
 
--- a query that is not answered yet is refused as such, after every other cause
-abbrev pub if_answered : (Query → Bool) → Result Query QueryRefusal → Result Query QueryRefusal
-if_answered is_answered (Ok query) = if is_answered query then Ok query else Err Unbuilt
-if_answered is_answered (Err refusal) = Err refusal
+-- a query, unless a cause refuses it
+abbrev pub unless_refused : Option QueryRefusal → Query → Result Query QueryRefusal
+unless_refused None query = Ok query
+unless_refused (Some refusal) query = Err refusal
 
--- the query of a line, or why it is refused, where these queries are answered
-abbrev pub query_of : (Query → Bool) → List ℕ → Result Query QueryRefusal
-query_of is_answered line = if_answered is_answered (query_said line)
+-- a query that is refused where it is asked of a world is refused after every other cause
+abbrev pub asked_of : (World → Query → Option QueryRefusal) → World → Result Query QueryRefusal
+    → Result Query QueryRefusal
+asked_of refuses w (Ok query) = unless_refused (refuses w query) query
+asked_of refuses w (Err refusal) = Err refusal
+
+-- the query of a line, or why it is refused, asked of a world where some queries are refused
+abbrev pub query_of : (World → Query → Option QueryRefusal) → World → List ℕ
+    → Result Query QueryRefusal
+query_of refuses w line = asked_of refuses w (query_said line)

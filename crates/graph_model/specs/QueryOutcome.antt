@@ -1,4 +1,5 @@
--- What is read of a line or of a part of it: a value, or the refusal that comes first over the whole of it.
+-- What is read of a line or of a part of it: a value, or the refusal that comes first over the whole
+-- of it.
 use Rattle.std.specs.Prelude.{ℕ, nat_le, List, [], ◌∷◌, ◌++◌, fold, Result, Ok, Err, if◌then◌else◌}
 use Rattle.graph_model.specs.Script.{QueryRefusal, Json, Shape, Number, Depth, Windows, Unbuilt}
 
@@ -13,10 +14,12 @@ judged_as Unbuilt = 5
 
 -- of two refusals the one that is judged first
 abbrev pub first_refusal : QueryRefusal → QueryRefusal → QueryRefusal
-first_refusal refusal other = if nat_le (judged_as refusal) (judged_as other) then refusal else other
+first_refusal refusal other =
+    if nat_le (judged_as refusal) (judged_as other) then refusal else other
 
 -- two values, or the refusal that comes first
-abbrev pub both : {A B : Type 0} → Result A QueryRefusal → Result B QueryRefusal → Result (A × B) QueryRefusal
+abbrev pub both : {A B : Type 0} → Result A QueryRefusal → Result B QueryRefusal
+    → Result (A × B) QueryRefusal
 both (Ok a) (Ok b) = Ok (a, b)
 both (Ok a) (Err refusal) = Err refusal
 both (Err refusal) (Ok b) = Err refusal
@@ -31,9 +34,11 @@ made make (Err refusal) = Err refusal
 abbrev pub put_last : {A : Type 0} → List A × A → List A
 put_last p = p.0 ++ p.1 ∷ []
 
-abbrev pub with_last : {A : Type 0} → Result (List A) QueryRefusal → Result A QueryRefusal → Result (List A) QueryRefusal
+abbrev pub with_last : {A : Type 0} → Result (List A) QueryRefusal → Result A QueryRefusal
+    → Result (List A) QueryRefusal
 with_last values value = made put_last (both values value)
 
 -- what is read of each item, in order
-abbrev pub all_of : {A X : Type 0} → (X → Result A QueryRefusal) → List X → Result (List A) QueryRefusal
+abbrev pub all_of : {A X : Type 0} → (X → Result A QueryRefusal) → List X
+    → Result (List A) QueryRefusal
 all_of f xs = fold (λ values x. with_last values (f x)) (Ok []) xs

@@ -10,7 +10,8 @@ onto_first byte (line ∷ lines) = (byte ∷ line) ∷ lines
 -- the lines of a script: it is split at each line feed, and a last piece that is empty is no line
 abbrev pub lines_of : List ℕ → List (List ℕ)
 lines_of [] = []
-lines_of (byte ∷ bytes) = if byte == 10 then [] ∷ lines_of bytes else onto_first byte (lines_of bytes)
+lines_of (byte ∷ bytes) =
+    if byte == 10 then [] ∷ lines_of bytes else onto_first byte (lines_of bytes)
 
 -- a space, a tab or a carriage return
 abbrev pub is_space : ℕ → Bool

@@ -14,13 +14,13 @@ use Rattle.graph_model.specs.declared.queries.Query.{Query}
 use Rattle.graph_model.specs.declared.queries.Ask.TheVariants.{Materialise}
 use Rattle.graph_model.specs.Answer.{Row, row_fields, world_rows}
 use Rattle.graph_model.specs.Output.{AreBlocks, IsOutput, is_clean, is_clean_line, IsPart, graph_row, refused_row, world_row}
-use Rattle.graph_model.specs.QueryLine.{if_answered, query_of, query_said}
+use Rattle.graph_model.specs.QueryLine.{asked_of, query_of, query_said, unless_refused}
 use Rattle.query_script.proofs.Kept.{line-in-range}
 use Rattle.graph_model.specs.Range.{ask_in_range, each_in_range, op_in_range, query_in_range}
 use Rattle.graph_model.specs.Refusal.{RecordRefusal}
 use Rattle.graph_model.specs.Reading.{Reading, base_world, reading}
 use Rattle.graph_model.specs.RowText.{rows_text, world_text}
-use Rattle.graph_model.specs.Script.{QueryRefusal, Unbuilt, lines_of}
+use Rattle.graph_model.specs.Script.{QueryRefusal, lines_of}
 use Rattle.graph_model.specs.Stack.{apply, view}
 use Rattle.graph_model.specs.Window.{window}
 use Rattle.graph_model.specs.Windows.{bounded, last_time, window_count, window_end, window_start, windows, windows_from}
@@ -83,22 +83,27 @@ left_again model bytes query w range k = ap (λ m. base_world m (world_text w)) 
 -- ---- lines of a script
 
 -- a line that is answered says its query
-where_answered : (b : Bool) (r : Result Query QueryRefusal) (query : Query) → (if b then r else Err Unbuilt) ≡ Ok query → r ≡ Ok query
-where_answered true r query e = e
-where_answered false r query e = cc e
+said_unless : (refusal : Option QueryRefusal) (q query : Query) → unless_refused refusal q ≡ Ok query → q ≡ query
+said_unless None q query e = cc e
+said_unless (Some refusal) q query e = cc e
 
-said_by_line : (is_answered : Query → Bool) (r : Result Query QueryRefusal) (query : Query) → if_answered is_answered r ≡ Ok query → r ≡ Ok query
-said_by_line is_answered (Err refusal) query e = cc e
-said_by_line is_answered (Ok q) query e = where_answered (is_answered q) (Ok q) query e
+said_by_line : (refuses : World → Query → Option QueryRefusal) (w : World) (r : Result Query QueryRefusal) (query : Query)
+    → asked_of refuses w r ≡ Ok query → r ≡ Ok query
+said_by_line refuses w (Err refusal) query e = cc e
+said_by_line refuses w (Ok q) query e = ap Ok (said_unless (refuses w q) q query e)
 
-pub line_in_range : (is_answered : Query → Bool) (line : List ℕ) (query : Query) → query_of is_answered line ≡ Ok query → IsTrue (query_in_range query)
-line_in_range is_answered line query e = line-in-range line query (said_by_line is_answered (query_said line) query e)
+pub line_in_range : (refuses : World → Query → Option QueryRefusal) (w : World) (line : List ℕ) (query : Query)
+    → query_of refuses w line ≡ Ok query → IsTrue (query_in_range query)
+line_in_range refuses w line query e = line-in-range line query (said_by_line refuses w (query_said line) query e)
 
-pub line_unrefused : (is_answered : Query → Bool) (model : Model) (bytes line : List ℕ) (query : Query) (w : World) → query_of is_answered line ≡ Ok query → Contains (worlds_left model bytes query) w → (reading model (world_text w)).refused ≡ []
-line_unrefused is_answered model bytes line query w e k = ap (λ (r : Reading). r.refused) (left_said model bytes query w (line_in_range is_answered line query e) k)
+pub line_unrefused : (refuses : World → Query → Option QueryRefusal) (model : Model) (bytes line : List ℕ) (query : Query) (w : World)
+    → query_of refuses (base_world model bytes) line ≡ Ok query → Contains (worlds_left model bytes query) w → (reading model (world_text w)).refused ≡ []
+line_unrefused refuses model bytes line query w e k =
+    ap (λ (r : Reading). r.refused) (left_said model bytes query w (line_in_range refuses (base_world model bytes) line query e) k)
 
-pub line_again : (is_answered : Query → Bool) (model : Model) (bytes line : List ℕ) (query : Query) (w : World) → query_of is_answered line ≡ Ok query → Contains (worlds_left model bytes query) w → base_world model (world_text w) ≡ w
-line_again is_answered model bytes line query w e k = left_again model bytes query w (line_in_range is_answered line query e) k
+pub line_again : (refuses : World → Query → Option QueryRefusal) (model : Model) (bytes line : List ℕ) (query : Query) (w : World)
+    → query_of refuses (base_world model bytes) line ≡ Ok query → Contains (worlds_left model bytes query) w → base_world model (world_text w) ≡ w
+line_again refuses model bytes line query w e k = left_again model bytes query w (line_in_range refuses (base_world model bytes) line query e) k
 
 -- ---- what is printed
 
@@ -115,33 +120,38 @@ printed_text w part h = ap rows_text ((printed_part w part).0 h)
 -- ---- what is written for it
 
 -- what is written for what was read
-abbrev IsWritten : (Query → Bool) → Model → List ℕ → List ℕ → Reading → World → Type 0
-IsWritten is_answered model script text r w = (blocks : List (List (List ℕ))) × AreBlocks is_answered w 1 (lines_of script) blocks
+abbrev IsWritten : (World → Query → Option QueryRefusal) → Model → List ℕ → List ℕ → Reading → World → Type 0
+IsWritten refuses model script text r w = (blocks : List (List (List ℕ))) × AreBlocks refuses w 1 (lines_of script) blocks
     × (text ≡ rows_text (map refused_row r.refused ++ (graph_row model r.bounds (length r.accepted) (length r.refused) ∷ blocks)))
 
-written_same : (is_answered : Query → Bool) (model : Model) (bytes script text : List ℕ) (r : Reading) (w : World) → reading model bytes ≡ r → base_world model bytes ≡ w → IsOutput is_answered model bytes script text ↔ IsWritten is_answered model script text r w
+written_same : (refuses : World → Query → Option QueryRefusal) (model : Model) (bytes script text : List ℕ) (r : Reading) (w : World) → reading model bytes ≡ r → base_world model bytes ≡ w → IsOutput refuses model bytes script text ↔ IsWritten refuses model script text r w
 unfolding IsOutput
-written_same is_answered model bytes script text r w said again = (
-  λ h. subst (λ v. IsWritten is_answered model script text r v) again (subst (λ s. IsWritten is_answered model script text s (base_world model bytes)) said h),
-  λ h. subst (λ s. IsWritten is_answered model script text s (base_world model bytes)) (sym said) (subst (λ v. IsWritten is_answered model script text r v) (sym again) h),
+written_same refuses model bytes script text r w said again = (
+  λ h. subst (λ v. IsWritten refuses model script text r v) again (subst (λ s. IsWritten refuses model script text s (base_world model bytes)) said h),
+  λ h. subst (λ s. IsWritten refuses model script text s (base_world model bytes)) (sym said) (subst (λ v. IsWritten refuses model script text r v) (sym again) h),
 )
 
-pub world_written : (is_answered : Query → Bool) (w : World) (script text : List ℕ) → IsPrintable w
-    → IsOutput is_answered w.model (world_text w) script text
-    ↔ ((blocks : List (List (List ℕ))) × AreBlocks is_answered w 1 (lines_of script) blocks × (text ≡ rows_text (graph_row w.model w.bounds (length w.events) 0 ∷ blocks)))
-world_written is_answered w script text h = written_same is_answered w.model (world_text w) script text (given w.bounds w.events w.types) w (world_said w h) (world_again w h)
+pub world_written : (refuses : World → Query → Option QueryRefusal) (w : World) (script text : List ℕ) → IsPrintable w
+    → IsOutput refuses w.model (world_text w) script text
+    ↔ ((blocks : List (List (List ℕ))) × AreBlocks refuses w 1 (lines_of script) blocks × (text ≡ rows_text (graph_row w.model w.bounds (length w.events) 0 ∷ blocks)))
+world_written refuses w script text h = written_same refuses w.model (world_text w) script text (given w.bounds w.events w.types) w (world_said w h) (world_again w h)
 
-pub left_written : (is_answered : Query → Bool) (model : Model) (bytes : List ℕ) (query : Query) (w : World) (script text : List ℕ) → IsTrue (query_in_range query) → Contains (worlds_left model bytes query) w
-    → IsOutput is_answered model (world_text w) script text
-    ↔ ((blocks : List (List (List ℕ))) × AreBlocks is_answered w 1 (lines_of script) blocks × (text ≡ rows_text (graph_row model w.bounds (length w.events) 0 ∷ blocks)))
-left_written is_answered model bytes query w script text range k =
-    written_same is_answered model (world_text w) script text (given w.bounds w.events w.types) w (left_said model bytes query w range k) (left_again model bytes query w range k)
+pub left_written : (refuses : World → Query → Option QueryRefusal) (model : Model) (bytes : List ℕ) (query : Query) (w : World) (script text : List ℕ) → IsTrue (query_in_range query) → Contains (worlds_left model bytes query) w
+    → IsOutput refuses model (world_text w) script text
+    ↔ ((blocks : List (List (List ℕ))) × AreBlocks refuses w 1 (lines_of script) blocks × (text ≡ rows_text (graph_row model w.bounds (length w.events) 0 ∷ blocks)))
+left_written refuses model bytes query w script text range k =
+    written_same refuses model (world_text w) script text (given w.bounds w.events w.types) w (left_said model bytes query w range k) (left_again model bytes query w range k)
 
 -- ---- nothing of it is refused
 
-clean_same : (is_answered : Query → Bool) (model : Model) (bytes script : List ℕ) → (reading model bytes).refused ≡ [] → is_clean is_answered model bytes script ≡ list_all (is_clean_line is_answered) (lines_of script)
+clean_same : (refuses : World → Query → Option QueryRefusal) (model : Model) (bytes script : List ℕ) (r : Reading) (w : World) → reading model bytes ≡ r → base_world model bytes ≡ w
+    → r.refused ≡ [] → is_clean refuses model bytes script ≡ list_all (is_clean_line refuses w) (lines_of script)
 unfolding is_clean
-clean_same is_answered model bytes script none = ap (λ (refused : List (ℕ × RecordRefusal)). (length refused == 0) && list_all (is_clean_line is_answered) (lines_of script)) none
+clean_same refuses model bytes script r w said again none =
+    ap (λ (s : Reading). (length s.refused == 0) && list_all (is_clean_line refuses (base_world model bytes)) (lines_of script)) said
+    ∙ ap (λ v. (length r.refused == 0) && list_all (is_clean_line refuses v) (lines_of script)) again
+    ∙ ap (λ (refused : List (ℕ × RecordRefusal)). (length refused == 0) && list_all (is_clean_line refuses w) (lines_of script)) none
 
-pub world_clean : (is_answered : Query → Bool) (w : World) (script : List ℕ) → IsPrintable w → is_clean is_answered w.model (world_text w) script ≡ list_all (is_clean_line is_answered) (lines_of script)
-world_clean is_answered w script h = clean_same is_answered w.model (world_text w) script (ap (λ (r : Reading). r.refused) (world_said w h))
+pub world_clean : (refuses : World → Query → Option QueryRefusal) (w : World) (script : List ℕ) → IsPrintable w
+    → is_clean refuses w.model (world_text w) script ≡ list_all (is_clean_line refuses w) (lines_of script)
+world_clean refuses w script h = clean_same refuses w.model (world_text w) script (given w.bounds w.events w.types) w (world_said w h) (world_again w h) refl

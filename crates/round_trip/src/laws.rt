@@ -10,7 +10,7 @@ ghost use Rattle.graph_model.specs.QueryLine.{query_of};
 ghost use Rattle.graph_model.specs.Range.{op_in_range, query_in_range};
 ghost use Rattle.graph_model.specs.Reading.{base_world, reading};
 ghost use Rattle.graph_model.specs.RowText.{rows_text, world_text};
-ghost use Rattle.graph_model.specs.Script.{lines_of};
+ghost use Rattle.graph_model.specs.Script.{QueryRefusal, lines_of};
 ghost use Rattle.graph_model.specs.Stack.{apply, view};
 ghost use Rattle.graph_model.specs.Windows.{windows};
 ghost use Rattle.graph_model.specs.World.{World};
@@ -49,10 +49,19 @@ pub fn what_a_query_leaves_is_read_back()
     ensures again { (model : Model) (bytes : List ℕ) (query : Query) (w : World) → IsTrue (query_in_range query) → Contains (worlds_left model bytes query) w → base_world model (world_text w) ≡ w }
 {}
 
-/// So it is of each line of a script that says a query which is answered: the numbers of such a query are in range.
+/// So it is of each line of a script that says a query which is answered: the numbers of such a query are in
+/// range.
 pub fn what_a_line_leaves_is_read_back()
-    ensures unrefused { (is_answered : Query → Bool) (model : Model) (bytes line : List ℕ) (query : Query) (w : World) → query_of is_answered line ≡ Ok query → Contains (worlds_left model bytes query) w → (reading model (world_text w)).refused ≡ [] }
-    ensures again { (is_answered : Query → Bool) (model : Model) (bytes line : List ℕ) (query : Query) (w : World) → query_of is_answered line ≡ Ok query → Contains (worlds_left model bytes query) w → base_world model (world_text w) ≡ w }
+    ensures unrefused { (refuses : World → Query → Option QueryRefusal) (model : Model)
+        (bytes line : List ℕ) (query : Query) (w : World)
+        → query_of refuses (base_world model bytes) line ≡ Ok query
+        → Contains (worlds_left model bytes query) w
+        → (reading model (world_text w)).refused ≡ [] }
+    ensures again { (refuses : World → Query → Option QueryRefusal) (model : Model)
+        (bytes line : List ℕ) (query : Query) (w : World)
+        → query_of refuses (base_world model bytes) line ≡ Ok query
+        → Contains (worlds_left model bytes query) w
+        → base_world model (world_text w) ≡ w }
 {}
 
 /// What `materialise` prints of a world, behind the row of the world, is the world's text.
@@ -61,13 +70,24 @@ pub fn materialise_prints_the_text_of_a_world()
     ensures text { (w : World) (part : List (List (List ℕ))) → IsPart w Materialise part → rows_text part ≡ row_text default_writer (world_row w.bounds (length (world_rows w))) ++ world_text w }
 {}
 
-/// For every script, what is written for the text of a world that can be printed has the row of its graph, in which no record is refused, and the blocks of that world; so each question has the rows that it has on the world. Nothing is refused where no line of the script is. So it is of each world that a query leaves of an events file.
+/// For every script, what is written for the text of a world that can be printed has the row of its graph, in
+/// which no record is refused, and the blocks of that world; so each question has the rows that it has on the
+/// world. Nothing is refused where no line of the script is. So it is of each world that a query leaves of an
+/// events file.
 pub fn a_printed_world_is_answered_as_the_world()
-    ensures printable { (is_answered : Query → Bool) (w : World) (script text : List ℕ) → IsPrintable w
-        → IsOutput is_answered w.model (world_text w) script text
-        ↔ ((blocks : List (List (List ℕ))) × AreBlocks is_answered w 1 (lines_of script) blocks × (text ≡ rows_text (graph_row w.model w.bounds (length w.events) 0 ∷ blocks))) }
-    ensures clean { (is_answered : Query → Bool) (w : World) (script : List ℕ) → IsPrintable w → is_clean is_answered w.model (world_text w) script ≡ list_all (is_clean_line is_answered) (lines_of script) }
-    ensures left { (is_answered : Query → Bool) (model : Model) (bytes : List ℕ) (query : Query) (w : World) (script text : List ℕ) → IsTrue (query_in_range query) → Contains (worlds_left model bytes query) w
-        → IsOutput is_answered model (world_text w) script text
-        ↔ ((blocks : List (List (List ℕ))) × AreBlocks is_answered w 1 (lines_of script) blocks × (text ≡ rows_text (graph_row model w.bounds (length w.events) 0 ∷ blocks))) }
+    ensures printable { (refuses : World → Query → Option QueryRefusal) (w : World)
+        (script text : List ℕ) → IsPrintable w
+        → IsOutput refuses w.model (world_text w) script text
+        ↔ ((blocks : List (List (List ℕ))) × AreBlocks refuses w 1 (lines_of script) blocks
+        × (text ≡ rows_text (graph_row w.model w.bounds (length w.events) 0 ∷ blocks))) }
+    ensures clean { (refuses : World → Query → Option QueryRefusal) (w : World) (script : List ℕ)
+        → IsPrintable w
+        → is_clean refuses w.model (world_text w) script
+        ≡ list_all (is_clean_line refuses w) (lines_of script) }
+    ensures left { (refuses : World → Query → Option QueryRefusal) (model : Model)
+        (bytes : List ℕ) (query : Query) (w : World) (script text : List ℕ)
+        → IsTrue (query_in_range query) → Contains (worlds_left model bytes query) w
+        → IsOutput refuses model (world_text w) script text
+        ↔ ((blocks : List (List (List ℕ))) × AreBlocks refuses w 1 (lines_of script) blocks
+        × (text ≡ rows_text (graph_row model w.bounds (length w.events) 0 ∷ blocks))) }
 {}
