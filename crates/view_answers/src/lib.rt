@@ -3,7 +3,6 @@
 
 mod edges;
 mod histories;
-mod laws;
 mod nodes;
 mod part;
 mod point;
@@ -11,6 +10,5 @@ mod records;
 mod rows;
 mod values;
 
-pub use laws::plain_rows_are_the_answer;
 pub use part::add_part;
 pub use point::{PointAnswer, PointAsk, answer_point};

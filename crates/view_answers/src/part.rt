@@ -1,8 +1,7 @@
 //! The part of one world in the answer to a question.
-ghost use Rattle.std.specs.Prelude.{◌≡◌, ◌++◌, true, OnOk};
-ghost use Rattle.graph_model.specs.RowText.{rows_text};
-ghost use Rattle.view_answers.specs.Parts.{part_rows};
-ghost use Rattle.view_answers.specs.Plain.{IsPaid, is_plain, plain_rows};
+ghost use Rattle.std.specs.Prelude.{◌≡◌, true, OnOk};
+ghost use Rattle.view_answers.specs.Parts.{AddsPart};
+ghost use Rattle.view_answers.specs.Plain.{IsPaid, is_plain};
 
 use crate::edges::add_edges;
 use crate::histories::{add_edge_history, add_node_history};
@@ -28,8 +27,9 @@ pub fn add_part<V: View, L: Ledger>(
     steps: &mut Steps<L>,
 ) -> Result<(), Memory>
     requires { is_plain ask.now ≡ true }
-    ensures part { OnOk result (out.new ≡ out.old ++ rows_text (part_rows (V.world view.now) (plain_rows (V.world view.now) ask.now))) }
-    ensures cost { IsPaid (V.contents view.now) (V.world view.now) (V.searches view.now) ask.now steps.old steps.new }
+    ensures part { OnOk result (AddsPart (V.world view.now) ask.now out.old out.new) }
+    ensures cost { let contents = V.contents view.now in let world = V.world view.now in
+        IsPaid contents world (V.searches view.now) ask.now steps.old steps.new }
 {
     match ask {
         Ask::Nodes => add_nodes(alloc, out, view, steps),
