@@ -1,9 +1,10 @@
 -- The answers to the questions that need no walk.
-use Rattle.std.proofs.Common.{◌≡◌, ℕ, suc, zero, ◌+◌, ◌<◌, ℤ, add-zero, zero-add, Bool, true, false, ◌||◌, List, [], ◌∷◌, map, cond, eqb, Option, Some, None, inl, inr, refl, sym, ◌∙◌, ap, subst, arith}
+use Rattle.std.proofs.Common.{◌≡◌, ℕ, suc, zero, ◌+◌, ◌<◌, ℤ, add-zero, zero-add, Bool, true, false, ◌||◌, List, [], ◌∷◌, map, Option, Some, None, inl, inr, refl, sym, ◌∙◌, ap, subst, arith}
 use Rattle.std.specs.Prelude.{◌↔◌, slice_get, codes, IsTrue}
 use Rattle.std.specs.List.{Contains, AllByRecursion, list_any}
 use Rattle.std.specs.declared.cmp.Ordering.{Ordering}
 use Rattle.std.specs.declared.cmp.Ordering.TheVariants.{Less, Equal, Greater}
+use Rattle.std.specs.Cmp.{nat_cmp_is}
 use Rattle.std.specs.Ordering.{nat_cmp, ordering_then}
 use Rattle.std.proofs.lemmas.Bool.{or_left, or_right, true≢false}
 use Rattle.graph_model.specs.declared.properties.Value.{Value}
@@ -21,20 +22,13 @@ use Rattle.graph_model.specs.Presence.{node_present, nodes, edges, alive_at}
 use Rattle.graph_model.specs.Answer.{Row, Named, Linked, Happened, Valued, Lives, row_cmp, RowsRise, IsFact, AreTheFacts, IsAnswer, degree_row, extent_row, edge_kind, history_rows, value_rows}
 use Rattle.world_laws.proofs.Order.{same_name-refl, same_name-exact, same_edge-exact, same_edge-refl}
 use Rattle.world_laws.proofs.Rows.{contains_cases, contains_first, contains_later, contains_none}
-use Rattle.std.proofs.lemmas.Bool.{lt-ltb}
+use Rattle.world_laws.proofs.Filters.{each_weaker}
+use Rattle.world_laws.proofs.ListItems.{each_map}
 use Rattle.world_laws.proofs.Members.{nodes_has, nodes_rise, edges_has, edges_rise}
-
-each_map : {X Y : Type 0} (P : Y → Type 0) (f : X → Y) (xs : List X) → AllByRecursion (λ x. P (f x)) xs → AllByRecursion P (map f xs)
-each_map P f [] h = tt
-each_map P f (x ∷ xs) h = (h.0, each_map P f xs h.1)
-
-each_less : {X : Type 0} (P Q : X → Type 0) → ((x : X) → P x → Q x) → (xs : List X) → AllByRecursion P xs → AllByRecursion Q xs
-each_less P Q f [] h = tt
-each_less P Q f (x ∷ xs) h = (f x h.0, each_less P Q f xs h.1)
 
 pub Rises-map : {X Y : Type 0} (cmp : X → X → Ordering) (cmp' : Y → Y → Ordering) (f : X → Y) → ((x y : X) → cmp x y ≡ Less → cmp' (f x) (f y) ≡ Less) → (xs : List X) → Rises cmp xs → Rises cmp' (map f xs)
 Rises-map cmp cmp' f k [] h = tt
-Rises-map cmp cmp' f k (x ∷ xs) h = (each_map (λ y. cmp' (f x) y ≡ Less) f xs (each_less (λ y. cmp x y ≡ Less) (λ y. cmp' (f x) (f y) ≡ Less) (k x) xs h.0), Rises-map cmp cmp' f k xs h.1)
+Rises-map cmp cmp' f k (x ∷ xs) h = (each_map (λ y. cmp' (f x) y ≡ Less) f xs (each_weaker (λ y. cmp x y ≡ Less) (λ y. cmp' (f x) (f y) ≡ Less) (k x) xs h.0), Rises-map cmp cmp' f k xs h.1)
 
 pub contains_map : {X Y : Type 0} (f : X → Y) (xs : List X) (y : Y) → Contains (map f xs) y → (x : X) × Contains xs x × (y ≡ f x)
 contains_map f [] y c = absurd (contains_none y c)
@@ -135,12 +129,9 @@ answer_edges w = record {
 
 -- ---- histories
 
-nat_less : (j k : ℕ) → j < k → nat_cmp j k ≡ Less
-nat_less j k h = ap (λ t. cond t Less (cond (eqb j k) Equal Greater)) (lt-ltb j k h)
-
 history_places : (kind : Event → List ℕ) (j k : ℕ) (t : ℤ) (bs : List ℕ) (xs : List Event) → j < k → AllByRecursion (λ row. row_cmp (Happened j t bs) row ≡ Less) (history_rows kind k xs)
 history_places kind j k t bs [] h = tt
-history_places kind j k t bs (x ∷ xs) h = (ap (ordering_then Equal) (nat_less j k h), history_places kind j (suc k) t bs xs (omega arith))
+history_places kind j k t bs (x ∷ xs) h = (ap (ordering_then Equal) (sym (nat_cmp_is j k Less h)), history_places kind j (suc k) t bs xs (omega arith))
 
 history_rise : (kind : Event → List ℕ) (k : ℕ) (xs : List Event) → RowsRise (history_rows kind k xs)
 history_rise kind k [] = tt

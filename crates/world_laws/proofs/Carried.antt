@@ -44,7 +44,7 @@ about_one e b (x ∷ xs) h =
     ∙ (ap (λ ys. cond (same_entity e b) (x ∷ ys) ys) (about_one e b xs h.1) ∙ (elim (same_entity e b) as (λ t. cond t (x ∷ cond t xs []) (cond t xs []) ≡ cond t (x ∷ xs) []) [ true ↦ refl | false ↦ refl ]))
 
 -- a filter of lists that it keeps or drops whole
-filter_flat_map : {X A : Type 0} (p : A → Bool) (q : X → Bool) (f : X → List A) → ((x : X) → filter p (f x) ≡ cond (q x) (f x) []) → (xs : List X) → filter p (flat_map f xs) ≡ flat_map f (filter q xs)
+pub filter_flat_map : {X A : Type 0} (p : A → Bool) (q : X → Bool) (f : X → List A) → ((x : X) → filter p (f x) ≡ cond (q x) (f x) []) → (xs : List X) → filter p (flat_map f xs) ≡ flat_map f (filter q xs)
 filter_flat_map p q f h [] = refl
 filter_flat_map p q f h (x ∷ xs) =
     filter-append p (f x) (flat_map f xs)

@@ -2,7 +2,7 @@
 use Rattle.std.proofs.Common.{◌≡◌, ℤ, ◌≤ℤ◌, ◌<ℤ◌, Bool, true, false, not, ◌&&◌, ◌||◌, List, [], ◌∷◌, ◌++◌, refl, sym, ◌∙◌, ap, arith, inl, inr, append_assoc}
 use Rattle.std.specs.Prelude.{int_le, IsTrue, ◌↔◌}
 use Rattle.std.specs.List.{AllByRecursion, filter, list_any}
-use Rattle.std.proofs.lemmas.Bool.{cases_Bool, cond-true, cond-false, or_left, or_right, or_cases, and_parts, and_from, true≢false}
+use Rattle.std.proofs.lemmas.Bool.{not-true, cases_Bool, cond-true, cond-false, or_left, or_right, or_cases, and_parts, and_from, true≢false}
 use Rattle.std.proofs.lemmas.Int.{ints}
 use Rattle.graph_model.specs.declared.events.Event.{Event}
 use Rattle.graph_model.specs.declared.events.EdgeName.{EdgeName}
@@ -137,16 +137,12 @@ final_from [] x after h k =
     (ap not (none_pass (λ y. int_le y.time x.time) after (each_weaker (λ y. x.time <ℤ y.time) (λ y. int_le y.time x.time ≡ false) (λ y m. not_le_test y.time x.time m) after k))))
 final_from (y ∷ before) x after h k = or_right (is_addition y && not (list_any (λ z. int_le z.time y.time) (before ++ x ∷ after))) (final_any (before ++ x ∷ after)) (final_from before x after h k)
 
-not_true : (b : Bool) → not b ≡ true → b ≡ false
-not_true true h = cc
-not_true false h = refl
-
 final_to : (xs : List Event) → final_any xs ≡ true → HasLastAddition xs
 final_to [] h = absurd (true≢false (sym h))
 final_to (x ∷ xs) h = elim (or_cases (is_addition x && not (list_any (λ y. int_le y.time x.time) xs)) (final_any xs) h) [
   | inl e ↦
       let k = and_parts (is_addition x) (not (list_any (λ y. int_le y.time x.time) xs)) e in
-      ([], (x, (xs, refl, k.0, each_weaker (λ y. int_le y.time x.time ≡ false) (λ y. x.time <ℤ y.time) (λ y m. gt_from_test y.time x.time m) xs (each_fails (λ y. int_le y.time x.time) xs (not_true (list_any (λ y. int_le y.time x.time) xs) k.1)))))
+      ([], (x, (xs, refl, k.0, each_weaker (λ y. int_le y.time x.time ≡ false) (λ y. x.time <ℤ y.time) (λ y m. gt_from_test y.time x.time m) xs (each_fails (λ y. int_le y.time x.time) xs (not-true (list_any (λ y. int_le y.time x.time) xs) k.1)))))
   | inr e ↦ let r = final_to xs e in (x ∷ r.0, (r.1.0, (r.1.1.0, ap (λ ys. x ∷ ys) r.1.1.1, r.1.1.2, r.1.1.3)))
 ]
 

@@ -7,11 +7,7 @@ use Rattle.std.specs.declared.cmp.Ordering.TheVariants.{Less, Equal, Greater}
 use Rattle.std.specs.Ordering.{is_eq, is_gt, ordering_reverse}
 use Rattle.graph_model.specs.Rising.{Rises, put_in_order, in_order}
 use Rattle.world_laws.proofs.Filters.{each_weaker}
-
-or_swapped : (a b c : Bool) → (a || (b || c)) ≡ (b || (a || c))
-or_swapped true true c = refl
-or_swapped true false c = refl
-or_swapped false b c = refl
+use Rattle.world_laws.proofs.RisingItems.{or_swapped}
 
 -- some item passes a test before a list is put in order exactly where one does after
 any_put_in_order : {X : Type 0} (cmp : X → X → Ordering) (p : X → Bool) (x : X) (ys : List X) → list_any p (put_in_order cmp x ys) ≡ (p x || list_any p ys)
