@@ -10,7 +10,7 @@ use graph_store::{EdgeId, NodeId, Store};
 use std::sync::ledger::Ledger;
 use time_column::Steps;
 use time_history::Span;
-use view_trait::View;
+use view_trait::{View, store_facts};
 
 /// All that a store has accepted, in the event model.
 #[derive(Clone, Copy)]
@@ -27,9 +27,7 @@ impl<'g> EventGraph<'g> {
     {
         match store.model() {
             Model::Event => {
-                let _lawful = store.events();
-                let _indexed = store.nodes();
-                let _few = store.layers();
+                store_facts(store);
                 Some(EventGraph { store })
             }
             Model::Persistent => None,

@@ -1,6 +1,6 @@
 -- One more view on a list of views.
-use Rattle.std.proofs.Common.{◌≡◌, ℕ, zero, suc, ℤ, ◌+◌, true, List, [], ◌∷◌, ◌++◌, Some, None, refl, sym, ◌∙◌, ap, arith, length, take, map}
-use Rattle.std.specs.Prelude.{slice_get}
+use Rattle.std.proofs.Common.{◌≡◌, ℕ, zero, suc, ℤ, ◌+◌, true, false, inl, inr, List, [], ◌∷◌, ◌++◌, Some, None, refl, sym, ◌∙◌, ap, arith, length, take, map}
+use Rattle.std.specs.Prelude.{slice_get, bit_and}
 use Rattle.std.specs.List.{list_all}
 use Rattle.std.proofs.lemmas.Bool.{and_parts}
 use Rattle.std.proofs.lemmas.List.{take_more}
@@ -10,14 +10,18 @@ use Rattle.graph_model.specs.World.{World}
 use Rattle.graph_model.specs.Window.{window}
 use Rattle.graph_model.specs.Keep.{keep}
 use Rattle.graph_model.specs.Searches.{Searches, ViewKind, searches, searches_over, searches_with}
+use Rattle.graph_store.specs.Parts.{parts_at}
 use Rattle.graph_store.specs.Contents.{Contents, base_of}
 use Rattle.view_trait.specs.declared.ready_ops.ReadyOp.{ReadyOp}
 use Rattle.view_trait.specs.declared.ready_ops.ReadyOp.TheVariants.{Window, Layers, Subgraph, ExcludeNodes, EdgesWhere, NodesWhere, Valid}
 use Rattle.view_trait.specs.Meaning.{IsShown, HasLayers}
 use Rattle.view_trait.specs.Ready.{ready_view, ready_apply, ready_kind, in_range}
-use Rattle.view_trait.proofs.Shown.{HasLayers-window, HasLayers-keep}
-use Rattle.view_trait.proofs.Kept.{HasLayers-layer_world}
-use Rattle.stack_view.specs.Below.{below, searches_below, moments_of, bounds_with, layers_with, keeps_entity, own_searches, end_searches}
+use Rattle.view_trait.proofs.Shown.{HasLayers-window}
+use Rattle.view_trait.proofs.Kept.{both_bits}
+use Rattle.entity_tests.specs.Tests.{PassesLayers, end_searches}
+use Rattle.entity_tests.specs.Ready.{by_ends, keeps_entity}
+use Rattle.entity_tests.proofs.Layers.{HasLayers-kept}
+use Rattle.stack_view.specs.Below.{below, searches_below, moments_of, bounds_with, own_searches}
 use Rattle.stack_view.specs.Shown.{IsShown-after}
 
 -- ---- lists
@@ -79,14 +83,20 @@ bounds_after c w (EdgesWhere key cmp v) = refl
 bounds_after c w (NodesWhere key cmp v) = refl
 bounds_after c w Valid = refl
 
-pub HasLayers-after : (c : Contents) (w : World) (op : ReadyOp) (kept : ℕ) → IsShown c w → HasLayers c w kept → HasLayers c (ready_view c w op) (layers_with kept op)
-HasLayers-after c w (Window a b) kept shown h = HasLayers-window c w a b kept shown h
-HasLayers-after c w (Layers bits) kept shown h = HasLayers-layer_world c w kept bits shown.indexed h
-HasLayers-after c w (Subgraph nodes) kept shown h = HasLayers-keep (keeps_entity c w (Subgraph nodes)) c w kept h
-HasLayers-after c w (ExcludeNodes nodes) kept shown h = HasLayers-keep (keeps_entity c w (ExcludeNodes nodes)) c w kept h
-HasLayers-after c w (EdgesWhere key cmp v) kept shown h = HasLayers-keep (keeps_entity c w (EdgesWhere key cmp v)) c w kept h
-HasLayers-after c w (NodesWhere key cmp v) kept shown h = HasLayers-keep (keeps_entity c w (NodesWhere key cmp v)) c w kept h
-HasLayers-after c w Valid kept shown h = HasLayers-keep (keeps_entity c w Valid) c w kept h
+pub HasLayers-after : (c : Contents) (w : World) (op : ReadyOp) (kept bits : ℕ) → IsShown c w → HasLayers c w kept → PassesLayers (λ s v. keeps_entity s v op) bits → HasLayers c (ready_view c w op) (bit_and kept bits)
+HasLayers-after c w (Window a b) kept bits shown h k = record {
+  none = λ e within n.
+      elim (both_bits kept bits (parts_at c.edges e).layer n) [
+        | inl z ↦ (HasLayers-window c w a b kept shown h).none e within z
+        | inr z ↦ absurd (let q : true ≡ false = k.none c w e shown within z in cc)
+      ];
+}
+HasLayers-after c w (Layers bs) kept bits shown h k = HasLayers-kept (λ s v. keeps_entity s v (Layers bs)) c w kept bits shown h k
+HasLayers-after c w (Subgraph nodes) kept bits shown h k = HasLayers-kept (λ s v. keeps_entity s v (Subgraph nodes)) c w kept bits shown h k
+HasLayers-after c w (ExcludeNodes nodes) kept bits shown h k = HasLayers-kept (λ s v. keeps_entity s v (ExcludeNodes nodes)) c w kept bits shown h k
+HasLayers-after c w (EdgesWhere key cmp v) kept bits shown h k = HasLayers-kept (λ s u. keeps_entity s u (EdgesWhere key cmp v)) c w kept bits shown h k
+HasLayers-after c w (NodesWhere key cmp v) kept bits shown h k = HasLayers-kept (λ s u. keeps_entity s u (NodesWhere key cmp v)) c w kept bits shown h k
+HasLayers-after c w Valid kept bits shown h k = HasLayers-kept (λ s v. keeps_entity s v Valid) c w kept bits shown h k
 
 -- ---- searches
 
@@ -111,7 +121,7 @@ nodes_with s (EdgesWhere key cmp v) = omega arith
 nodes_with s (NodesWhere key cmp v) = omega arith
 nodes_with s Valid = omega arith
 
-edges_with : (s : Searches) (op : ReadyOp) → (searches_with s (ready_kind op)).edges ≡ (end_searches s op + s.edges) + own_searches op
+edges_with : (s : Searches) (op : ReadyOp) → (searches_with s (ready_kind op)).edges ≡ (end_searches (by_ends op) s + s.edges) + own_searches op
 edges_with s (Window a b) = omega arith
 edges_with s (Layers bits) = omega arith
 edges_with s (Subgraph nodes) = omega arith
@@ -123,5 +133,5 @@ edges_with s Valid = omega arith
 pub node_searches_more : (ops : List ReadyOp) (i : ℕ) (op : ReadyOp) → slice_get ops i ≡ Some op → (searches_below ops (i + 1)).nodes ≡ (searches_below ops i).nodes + own_searches op
 node_searches_more ops i op h = ap (λ (s : Searches). s.nodes) (searches_more ops i op h) ∙ nodes_with (searches_below ops i) op
 
-pub edge_searches_more : (ops : List ReadyOp) (i : ℕ) (op : ReadyOp) → slice_get ops i ≡ Some op → (searches_below ops (i + 1)).edges ≡ (end_searches (searches_below ops i) op + (searches_below ops i).edges) + own_searches op
+pub edge_searches_more : (ops : List ReadyOp) (i : ℕ) (op : ReadyOp) → slice_get ops i ≡ Some op → (searches_below ops (i + 1)).edges ≡ (end_searches (by_ends op) (searches_below ops i) + (searches_below ops i).edges) + own_searches op
 edge_searches_more ops i op h = ap (λ (s : Searches). s.edges) (searches_more ops i op h) ∙ edges_with (searches_below ops i) op

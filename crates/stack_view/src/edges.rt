@@ -1,24 +1,25 @@
 //! The part of an edge's history that a list of views shows.
 ghost use Rattle.std.specs.Prelude.{◌≡◌, ◌<◌, ◌≤◌, ◌*◌, true, length};
 ghost use Rattle.std.specs.List.{list_all};
-ghost use Rattle.graph_store.specs.Parts.{parts_at};
 ghost use Rattle.graph_store.specs.Contents.{base_of};
 ghost use Rattle.view_trait.specs.Meaning.{IsShown, IsWithin, Shows, edge_at, node_at};
 ghost use Rattle.view_trait.specs.Ready.{in_range};
-ghost use Rattle.stack_view.specs.Below.{below, end_searches, keeps_ends, keeps_entity, searches_below};
+ghost use Rattle.entity_tests.specs.Tests.{end_searches, ends_pass};
+ghost use Rattle.entity_tests.specs.Ready.{by_ends, keeps_entity};
+ghost use Rattle.stack_view.specs.Below.{below, searches_below};
 ghost use Rattle.stack_view.specs.Stands.{StandsFor};
 
-use crate::nodes::{keeps_node, node_part};
+use crate::nodes::node_part;
 use crate::parts::{Part, part_with};
-use filter_view::{ends_in_addition, key_compares};
+use entity_tests::EntityTest;
 use graph_store::{EdgeId, NodeId, Store};
 use std::sync::ledger::Ledger;
 use time_column::Steps;
 use time_history::Span;
-use view_trait::{ReadyOp, ReadyOps, has_layer, has_nodes};
+use view_trait::{ReadyOp, ReadyOps};
 
 /// Whether a view keeps a node of what the first `count` views show.
-fn keeps_node_below<L: Ledger>(
+fn node_passes_below<L: Ledger>(
     store: &Store,
     ops: &ReadyOps,
     count: usize,
@@ -30,15 +31,15 @@ fn keeps_node_below<L: Ledger>(
     requires within { count ≤ length ops.now }
     requires in_range { list_all in_range ops.now ≡ true }
     requires shown { IsShown store.now (base_of store.now) }
-    ensures keeps { result ≡ keeps_entity store.now (below store.now ops.now count) op.now (node_at store.now n.0) }
+    ensures passes { let w = below store.now ops.now count in result ≡ keeps_entity store.now w op.now (node_at store.now n.0) }
     ensures cost { IsWithin steps.old steps.new (searches_below ops.now count).nodes (length store.now.accepted) }
 {
     let part = node_part(store, ops, count, n, steps);
-    keeps_node(store, op, n, part.span)
+    op.passes_node(store, n, part.span)
 }
 
 /// Whether a view keeps both ends of an edge of what the first `count` views show.
-fn keeps_ends_below<L: Ledger>(
+fn ends_pass_below<L: Ledger>(
     store: &Store,
     ops: &ReadyOps,
     count: usize,
@@ -50,17 +51,17 @@ fn keeps_ends_below<L: Ledger>(
     requires within { count ≤ length ops.now }
     requires in_range { list_all in_range ops.now ≡ true }
     requires shown { IsShown store.now (base_of store.now) }
-    ensures keeps { result ≡ keeps_ends store.now (below store.now ops.now count) op.now (parts_at store.now.edges e.0) }
+    ensures passes { let w = below store.now ops.now count in result ≡ ends_pass (keeps_entity store.now w op.now) store.now e.0 }
     ensures cost { IsWithin steps.old steps.new (2 * (searches_below ops.now count).nodes) (length store.now.accepted) }
 {
     let (src, dst, _layer) = store.edge_parts(e);
-    keeps_node_below(store, ops, count, op, src, steps)
-        && keeps_node_below(store, ops, count, op, dst, steps)
+    node_passes_below(store, ops, count, op, src, steps)
+        && node_passes_below(store, ops, count, op, dst, steps)
 }
 
 /// Whether a view keeps an edge of what the first `count` views show, from the part that stands for
 /// the edge there.
-fn keeps_edge<L: Ledger>(
+fn edge_passes_below<L: Ledger>(
     store: &Store,
     ops: &ReadyOps,
     count: usize,
@@ -74,21 +75,13 @@ fn keeps_edge<L: Ledger>(
     requires in_range { list_all in_range ops.now ≡ true }
     requires shown { IsShown store.now (base_of store.now) }
     requires span { Shows store.now (below store.now ops.now count) (edge_at store.now e.0) span }
-    ensures keeps { result ≡ keeps_entity store.now (below store.now ops.now count) op.now (edge_at store.now e.0) }
-    ensures cost { IsWithin steps.old steps.new (end_searches (searches_below ops.now count) op.now) (length store.now.accepted) }
+    ensures passes { let w = below store.now ops.now count in result ≡ keeps_entity store.now w op.now (edge_at store.now e.0) }
+    ensures cost { let s = searches_below ops.now count in IsWithin steps.old steps.new (end_searches (by_ends op.now) s) (length store.now.accepted) }
 {
-    let history = store.edge_history(e);
-    let (src, dst, layer) = store.edge_parts(e);
-    match op {
-        ReadyOp::Window(_, _) => true,
-        ReadyOp::Layers(bits) => has_layer(*bits, layer),
-        ReadyOp::Subgraph(nodes) => has_nodes(nodes, true, src, dst),
-        ReadyOp::ExcludeNodes(nodes) => has_nodes(nodes, false, src, dst),
-        ReadyOp::EdgesWhere(key, cmp, value) => {
-            key_compares(history, span, store.edge_keys(), *key, *cmp, value)
-        }
-        ReadyOp::NodesWhere(_, _, _) => keeps_ends_below(store, ops, count, op, e, steps),
-        ReadyOp::Valid => ends_in_addition(history, span),
+    if op.asks_ends() {
+        ends_pass_below(store, ops, count, op, e, steps)
+    } else {
+        op.passes_edge(store, e, span)
     }
 }
 
@@ -115,7 +108,7 @@ pub fn edge_part<L: Ledger>(
     };
     for i in 0..count {
         let op = ops.item(i);
-        let keeps = keeps_edge(store, ops, i, op, e, part.span, steps);
+        let keeps = edge_passes_below(store, ops, i, op, e, part.span, steps);
         part = part_with(history, part, model, op, keeps, steps);
     }
     part

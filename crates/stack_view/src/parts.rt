@@ -1,4 +1,4 @@
-//! What one more view does to the part of a history that stands for an entity, to bounds and to layers.
+//! What one more view does to the part of a history that stands for an entity, and to bounds.
 ghost use Rattle.std.specs.Prelude.{◌≡◌, ◌≤◌, ◌+◌, ◌-◌, ◌*◌, Bool, true, length};
 ghost use Rattle.std.specs.List.{list_all};
 ghost use Rattle.graph_model.specs.declared.events.Entity.{Entity};
@@ -9,7 +9,8 @@ ghost use Rattle.time_history.specs.Spans.{IsSpan, IsTaken, IsAllowed};
 ghost use Rattle.graph_store.specs.Contents.{Contents, base_of};
 ghost use Rattle.view_trait.specs.Meaning.{IsShown, Tells};
 ghost use Rattle.view_trait.specs.Ready.{ready_view, in_range};
-ghost use Rattle.stack_view.specs.Below.{below, bounds_with, keeps_entity, layers_with, moments_of, own_searches};
+ghost use Rattle.stack_view.specs.Below.{below, bounds_with, moments_of, own_searches};
+ghost use Rattle.entity_tests.specs.Ready.{keeps_entity};
 ghost use Rattle.stack_view.specs.Stands.{StandsFor};
 
 use graph_model::{Bounds, Model};
@@ -101,14 +102,4 @@ pub fn bounds_below(store: &Store, ops: &ReadyOps, count: usize) -> Bounds
         bounds = bounds_with(bounds, ops.item(i));
     }
     bounds
-}
-
-/// The layers, as bits, outside which no edge has an event with one more view.
-pub fn layers_with(kept: u64, op: &ReadyOp) -> u64
-    ensures { result ≡ layers_with kept op.now }
-{
-    match op {
-        ReadyOp::Layers(bits) => kept & *bits,
-        _ => kept,
-    }
 }

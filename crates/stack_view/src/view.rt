@@ -8,13 +8,14 @@ ghost use Rattle.view_trait.proofs.OneProof.{IsShown-prop};
 
 use crate::edges::edge_part;
 use crate::nodes::node_part;
-use crate::parts::{bounds_below, layers_with};
+use crate::parts::bounds_below;
+use entity_tests::EntityTest;
 use graph_model::Bounds;
 use graph_store::{EdgeId, NodeId, Store};
 use std::sync::ledger::Ledger;
 use time_column::Steps;
 use time_history::Span;
-use view_trait::{ReadyOps, View};
+use view_trait::{ReadyOps, View, store_facts};
 
 /// What a list of views shows of a store, the first view applied first.
 #[derive(Clone, Copy)]
@@ -32,9 +33,7 @@ impl<'g> StackView<'g> {
         ensures store { result.store.now ≡ store.now }
         ensures ops { result.ops.now ≡ ops.now }
     {
-        let _lawful = store.events();
-        let _indexed = store.nodes();
-        let _few = store.layers();
+        store_facts(store);
         StackView { store, ops }
     }
 }
@@ -64,7 +63,7 @@ impl View for StackView<'_> {
     fn layers_kept(&self) -> u64 {
         let mut kept = u64::MAX;
         for i in 0..self.ops.len() {
-            kept = layers_with(kept, self.ops.item(i));
+            kept &= self.ops.item(i).layers();
         }
         kept
     }

@@ -97,7 +97,7 @@ pub IsShown-node_world : (c : Contents) (keeps : Bool) (numbers : List ℕ) (w :
 IsShown-node_world c keeps numbers w h = IsShown-keep (chooses keeps (nodes_numbered c numbers)) c w h
 
 -- a bit that two numbers do not both have
-both_bits : (a b l : ℕ) → bit_at (bit_and a b) l ≡ 0 → (bit_at a l ≡ 0) ⊎ (has_bit b l ≡ false)
+pub both_bits : (a b l : ℕ) → bit_at (bit_and a b) l ≡ 0 → (bit_at a l ≡ 0) ⊎ (has_bit b l ≡ false)
 both_bits a b l h =
     let e : min (bit_at a l) (bit_at b l) ≡ 0 = sym (bit_at_and a b l) ∙ h in
     elim (cases_Bool (eqb (bit_at a l) 0)) [

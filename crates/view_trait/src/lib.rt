@@ -2,6 +2,7 @@
 #![tactic(auto)]
 
 mod extent_of_view;
+mod facts;
 mod neighbour_walk;
 mod numbers;
 mod presence;
@@ -10,6 +11,7 @@ mod ready_views;
 mod view;
 
 pub use extent_of_view::{WorldExtent, extent};
+pub use facts::store_facts;
 pub use neighbour_walk::{NeighbourWalk, neighbours};
 pub use numbers::{NodeList, has_layer, has_node, has_nodes, nothing};
 pub use presence::{edge_present, node_present, pair_present};

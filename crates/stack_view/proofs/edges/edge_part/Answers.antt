@@ -2,15 +2,17 @@ use Rattle.std.proofs.Common.{◌≡◌, ◌+◌, ◌-◌, refl, sym, subst, ari
 use Rattle.view_trait.specs.Meaning.{IsWithin, edge_at}
 use Rattle.view_trait.proofs.Found.{IsFound, edge_tells, taken_found, span_fits_store}
 use Rattle.view_trait.proofs.Costs.{IsWithin-more, IsWithin-then}
-use Rattle.stack_view.specs.Below.{below, searches_below, own_searches, end_searches}
+use Rattle.entity_tests.specs.Tests.{end_searches}
+use Rattle.entity_tests.specs.Ready.{by_ends}
+use Rattle.stack_view.specs.Below.{below, searches_below, own_searches}
 use Rattle.stack_view.specs.Stands.{StandsFor}
 use Rattle.stack_view.proofs.Stacked.{below_more, IsShown-below, item_in_range, edge_searches_more}
 use Rattle.stack_view.proofs.Stood.{StandsFor-whole, part_found}
 use Rattle.stack_view.proofs.edges.edge_part.Given.{Over}
-use Rattle.stack_view.proofs.edges.edge_part.Goals.{After-keeps_edge-keeps}
+use Rattle.stack_view.proofs.edges.edge_part.Goals.{After-edge_passes_below-keeps}
 use Rattle.stack_view.proofs.edges.edge_part.Goals as goal
 
-found : (g : Over) (c : After-keeps_edge-keeps g) → IsFound c.args.store.now (below c.args.store.now c.args.ops.now c.loop-i.i) (edge_at c.args.store.now c.args.e.0) c.model-model.result c.loop-i.part.bounds c.edge_history-history.result.now.updates c.loop-i.part.span
+found : (g : Over) (c : After-edge_passes_below-keeps g) → IsFound c.args.store.now (below c.args.store.now c.args.ops.now c.loop-i.i) (edge_at c.args.store.now c.args.e.0) c.model-model.result c.loop-i.part.bounds c.edge_history-history.result.now.updates c.loop-i.part.span
 found g c =
     let contents = c.args.store.now in
     let us = c.edge_history-history.result.now.updates in
@@ -26,18 +28,18 @@ loop-i-init g c =
       cost = omega arith;
     }
 
-pub keeps_edge-keeps-requires-clause-span : goal.keeps_edge-keeps-requires-clause-span
-keeps_edge-keeps-requires-clause-span g c = c.loop-i.invariant.stands.shows
+pub edge_passes_below-keeps-requires-clause-span : goal.edge_passes_below-keeps-requires-clause-span
+edge_passes_below-keeps-requires-clause-span g c = c.loop-i.invariant.stands.shows
 
 pub part_with-part-requires-clause-in_range : goal.part_with-part-requires-clause-in_range
 part_with-part-requires-clause-in_range g c = item_in_range c.args.ops.now c.loop-i.i c.item-op.result.now c.item-op.ensures c.requires.in_range
 
 pub part_with-part-requires-clause-taken : goal.part_with-part-requires-clause-taken
-part_with-part-requires-clause-taken g c = taken_found _ _ _ _ _ _ _ (found g (goal.at.part_with-part-requires-clause-taken g c).After-keeps_edge-keeps)
+part_with-part-requires-clause-taken g c = taken_found _ _ _ _ _ _ _ (found g (goal.at.part_with-part-requires-clause-taken g c).After-edge_passes_below-keeps)
 
 pub loop-i-preserved : goal.loop-i-preserved
 loop-i-preserved g c =
-    let f = found g (goal.at.loop-i-preserved g c).After-keeps_edge-keeps in
+    let f = found g (goal.at.loop-i-preserved g c).After-edge_passes_below-keeps in
     let contents = c.args.store.now in
     let ops = c.args.ops.now in
     let i = c.loop-i.i in
@@ -49,11 +51,11 @@ loop-i-preserved g c =
     record {
       stands =
           subst (λ v. StandsFor contents v x c.part_with-part.result) (sym (below_more contents ops i op c.item-op.ensures))
-          (c.part_with-part.ensures.stands contents w x f.shown (sym f.model_is) f.tells c.keeps_edge-keeps.ensures.keeps c.loop-i.invariant.stands);
+          (c.part_with-part.ensures.stands contents w x f.shown (sym f.model_is) f.tells c.edge_passes_below-keeps.ensures.passes c.loop-i.invariant.stands);
       cost =
           subst (λ k. IsWithin c.args.steps.now c.part_with-part.new.steps k among) (sym (edge_searches_more ops i op c.item-op.ensures))
-          (IsWithin-more c.args.steps.now c.keeps_edge-keeps.new.steps c.part_with-part.new.steps (end_searches s op + s.edges) (own_searches op) among (c.loop-i.part.span.to - c.loop-i.part.span.from)
-          (IsWithin-then c.args.steps.now c.loop-i.steps c.keeps_edge-keeps.new.steps s.edges (end_searches s op) among c.loop-i.invariant.cost c.keeps_edge-keeps.ensures.cost) c.part_with-part.ensures.cost (span_fits_store _ _ _ _ _ _ _ f));
+          (IsWithin-more c.args.steps.now c.edge_passes_below-keeps.new.steps c.part_with-part.new.steps (end_searches (by_ends op) s + s.edges) (own_searches op) among (c.loop-i.part.span.to - c.loop-i.part.span.from)
+          (IsWithin-then c.args.steps.now c.loop-i.steps c.edge_passes_below-keeps.new.steps s.edges (end_searches (by_ends op) s) among c.loop-i.invariant.cost c.edge_passes_below-keeps.ensures.cost) c.part_with-part.ensures.cost (span_fits_store _ _ _ _ _ _ _ f));
     }
 
 pub returns-clause-stands : goal.returns-clause-stands

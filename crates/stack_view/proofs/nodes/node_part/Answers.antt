@@ -9,18 +9,18 @@ use Rattle.stack_view.specs.Stands.{StandsFor}
 use Rattle.stack_view.proofs.Stacked.{below_more, IsShown-below, item_in_range, node_searches_more}
 use Rattle.stack_view.proofs.Stood.{StandsFor-whole, part_found}
 use Rattle.stack_view.proofs.nodes.node_part.Given.{Over}
-use Rattle.stack_view.proofs.nodes.node_part.Goals.{After-keeps_node-keeps}
+use Rattle.stack_view.proofs.nodes.node_part.Goals.{After-passes_node-keeps}
 use Rattle.stack_view.proofs.nodes.node_part.Goals as goal
 
-found : (g : Over) (c : After-keeps_node-keeps g) → IsFound c.args.store.now (below c.args.store.now c.args.ops.now c.loop-i.i) (node_at c.args.store.now c.args.n.0) c.model-model.result c.loop-i.part.bounds c.node_history-history.result.now.updates c.loop-i.part.span
+found : (g : Over) (c : After-passes_node-keeps g) → IsFound c.args.store.now (below c.args.store.now c.args.ops.now c.loop-i.i) (node_at c.args.store.now c.args.n.0) c.model-model.result c.loop-i.part.bounds c.node_history-history.result.now.updates c.loop-i.part.span
 found g c =
     let contents = c.args.store.now in
     let us = c.node_history-history.result.now.updates in
     part_found contents (below contents c.args.ops.now c.loop-i.i) (node_at contents c.args.n.0) c.model-model.result us c.loop-i.part (IsShown-below contents c.args.ops.now c.loop-i.i c.requires.shown) c.model-model.ensures
     (node_tells contents contents c.args.n.0 us refl c.node_history-history.ensures.told c.node_history-history.ensures.fits) c.loop-i.invariant.stands
 
-pub keeps_node-keeps-requires-clause-span : goal.keeps_node-keeps-requires-clause-span
-keeps_node-keeps-requires-clause-span g c = c.loop-i.invariant.stands.shows.span
+pub passes_node-keeps-requires-clause-span : goal.passes_node-keeps-requires-clause-span
+passes_node-keeps-requires-clause-span g c = c.loop-i.invariant.stands.shows.span
 
 pub loop-i-init : goal.loop-i-init
 loop-i-init g c =
@@ -35,11 +35,11 @@ pub part_with-part-requires-clause-in_range : goal.part_with-part-requires-claus
 part_with-part-requires-clause-in_range g c = item_in_range c.args.ops.now c.loop-i.i c.item-op.result.now c.item-op.ensures c.requires.in_range
 
 pub part_with-part-requires-clause-taken : goal.part_with-part-requires-clause-taken
-part_with-part-requires-clause-taken g c = taken_found _ _ _ _ _ _ _ (found g (goal.at.part_with-part-requires-clause-taken g c).After-keeps_node-keeps)
+part_with-part-requires-clause-taken g c = taken_found _ _ _ _ _ _ _ (found g (goal.at.part_with-part-requires-clause-taken g c).After-passes_node-keeps)
 
 pub loop-i-preserved : goal.loop-i-preserved
 loop-i-preserved g c =
-    let f = found g (goal.at.loop-i-preserved g c).After-keeps_node-keeps in
+    let f = found g (goal.at.loop-i-preserved g c).After-passes_node-keeps in
     let contents = c.args.store.now in
     let ops = c.args.ops.now in
     let i = c.loop-i.i in
@@ -50,7 +50,7 @@ loop-i-preserved g c =
     record {
       stands =
           subst (λ v. StandsFor contents v x c.part_with-part.result) (sym (below_more contents ops i op c.item-op.ensures))
-          (c.part_with-part.ensures.stands contents w x f.shown (sym f.model_is) f.tells (c.keeps_node-keeps.ensures w f.shows) c.loop-i.invariant.stands);
+          (c.part_with-part.ensures.stands contents w x f.shown (sym f.model_is) f.tells (c.passes_node-keeps.ensures w f.shows) c.loop-i.invariant.stands);
       cost =
           subst (λ k. IsWithin c.args.steps.now c.part_with-part.new.steps k among) (sym (node_searches_more ops i op c.item-op.ensures))
           (IsWithin-more c.args.steps.now c.loop-i.steps c.part_with-part.new.steps (searches_below ops i).nodes (own_searches op) among (c.loop-i.part.span.to - c.loop-i.part.span.from) c.loop-i.invariant.cost c.part_with-part.ensures.cost (span_fits _ _ _ _ _ _ _ f));

@@ -4,7 +4,8 @@ use mir.Val.{SFits}
 use Rattle.graph_model.specs.Interval.{cut}
 use Rattle.graph_model.specs.Window.{window}
 use Rattle.view_trait.specs.Meaning.{Shows}
-use Rattle.stack_view.specs.Below.{keeps_entity, moments_of}
+use Rattle.entity_tests.specs.Ready.{keeps_entity}
+use Rattle.stack_view.specs.Below.{moments_of}
 use Rattle.stack_view.specs.Stands.{StandsFor}
 use Rattle.stack_view.proofs.Stacked.{is_window, is_keep}
 use Rattle.stack_view.proofs.parts.part_with.Goals as goal

@@ -1,4 +1,5 @@
 use Rattle.std.proofs.Common.{◌≡◌, length, sym, subst, arith}
+use Rattle.std.specs.Prelude.{bit_and}
 use Rattle.graph_store.specs.Contents.{base_of}
 use Rattle.view_trait.specs.Meaning.{HasLayers}
 use Rattle.view_trait.proofs.Whole.{HasLayers-all}
@@ -15,8 +16,8 @@ loop-i-preserved c =
     let ops = c.args.self.now.ops.now in
     let op = c.item.result.now in
     let w = below contents ops c.loop-i.i in
-    subst (λ v. HasLayers contents v c.layers_with-kept.result) (sym (below_more contents ops c.loop-i.i op c.item.ensures))
-    (subst (HasLayers contents _) (sym c.layers_with-kept.ensures) (HasLayers-after contents w op c.loop-i.kept (IsShown-below contents ops c.loop-i.i c.args.self.now.shown) c.loop-i.invariant))
+    subst (λ v. HasLayers contents v (bit_and c.loop-i.kept c.layers-kept.result)) (sym (below_more contents ops c.loop-i.i op c.item.ensures))
+    (HasLayers-after contents w op c.loop-i.kept c.layers-kept.result (IsShown-below contents ops c.loop-i.i c.args.self.now.shown) c.loop-i.invariant c.layers-kept.ensures)
 
 pub returns : goal.returns
 returns c =

@@ -1,0 +1,5 @@
+use Rattle.entity_tests.proofs.Layers.{passes_each_layer}
+use Rattle.entity_tests.proofs.value_tests.NodeValueTestEntityTest.layers.Goals as goal
+
+pub returns : goal.returns
+returns c = passes_each_layer _

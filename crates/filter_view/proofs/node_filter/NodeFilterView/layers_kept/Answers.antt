@@ -1,9 +1,0 @@
-use Rattle.view_trait.proofs.Shown.{HasLayers-keep}
-use Rattle.view_trait.specs.Filtered.{node_passes}
-use Rattle.filter_view.proofs.node_filter.NodeFilterView.layers_kept.Goals as goal
-
-pub returns : goal.returns
-returns g c =
-    let contents = g.V.View.contents c.args.self.now.inner in
-    let world = g.V.View.world c.args.self.now.inner in
-    HasLayers-keep (node_passes contents world c.args.self.now.key c.args.self.now.cmp c.args.self.now.value.now) contents world c.layers_kept.result c.layers_kept.ensures
