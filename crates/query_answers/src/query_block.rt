@@ -1,18 +1,17 @@
 //! Answers to queries.
-ghost use Rattle.std.specs.Prelude.{◌≡◌, ◌≤◌, ◌+◌, ◌++◌, ◌↔◌, true, false, IsTrue, IsErrOf, OnOk, OnErr};
+ghost use Rattle.std.specs.Prelude.{◌≡◌, ◌≤◌, ◌+◌, ◌↔◌, true, false, IsTrue, IsErrOf, OnOk, OnErr};
 ghost use Rattle.std.specs.List.{list_all};
 ghost use Rattle.graph_model.specs.Range.{op_in_range, query_in_range};
-ghost use Rattle.graph_model.specs.RowText.{rows_text};
 ghost use Rattle.graph_model.specs.Stack.{apply};
 ghost use Rattle.graph_store.specs.Contents.{base_of};
-ghost use Rattle.view_answers.specs.Parts.{part_rows};
-ghost use Rattle.view_answers.specs.Plain.{is_plain, plain_rows};
-ghost use Rattle.query_run.specs.Answered.{is_answered};
-ghost use Rattle.query_run.specs.Cost.{is_counted_ask, is_counted_query, query_steps, size_of};
-ghost use Rattle.query_run.specs.Rows.{answer_block};
+ghost use Rattle.view_answers.specs.Parts.{AddsPart};
+ghost use Rattle.view_answers.specs.Plain.{is_plain};
+ghost use Rattle.query_answers.specs.Blocks.{AddsAnswer};
+ghost use Rattle.query_answers.specs.Cost.{is_counted_ask, is_counted_query, query_steps, size_of};
+ghost use Rattle.query_answers.specs.Refusing.{is_answered};
 
-use crate::answered::answers;
-use crate::rows::{add_query, append};
+use crate::block_rows::{add_query, append_rows};
+use crate::unbuilt::answers;
 use event_rows::RowWriter;
 use graph_model::{Memory, Query};
 use graph_store::Store;
@@ -34,7 +33,7 @@ pub enum AnswerFault {
 
 impl From<AllocError> for AnswerFault {
     ghost use Rattle.std.specs.Prelude.{◌≡◌};
-    ghost use Rattle.query_run.specs.declared.answer.AnswerFault.TheVariants.{Memory};
+    ghost use Rattle.query_answers.specs.declared.query_block.AnswerFault.TheVariants.{Memory};
 
     ghost from_gives = { λ _ fault. fault ≡ Memory };
 
@@ -53,8 +52,10 @@ fn add_seen_part<L: Ledger>(
 ) -> Result<(), Memory>
     requires plain { is_plain query.now.ask ≡ true }
     requires in_range { list_all op_in_range query.now.views ≡ true }
-    ensures rows { OnOk result (out.new ≡ out.old ++ rows_text (part_rows (apply query.now.views (base_of store.now)) (plain_rows (apply query.now.views (base_of store.now)) query.now.ask))) }
-    ensures cost { IsTrue (is_counted_ask store.now.model query.now.ask) → steps.new ≤ steps.old + query_steps (size_of store.now) query.now }
+    ensures part { OnOk result
+        (AddsPart (apply query.now.views (base_of store.now)) query.now.ask out.old out.new) }
+    ensures cost { IsTrue (is_counted_ask store.now.model query.now.ask)
+        → steps.new ≤ steps.old + query_steps (size_of store.now) query.now }
 {
     let ops = ready(alloc, store, &query.views)?;
     let view = StackView::new(store, &ops);
@@ -62,7 +63,8 @@ fn add_seen_part<L: Ledger>(
 }
 
 /// Appends the block of a query: its row, and the part of each world that it asks about. The names that
-/// its views give are looked up once, and its worlds are read in place.
+/// its views give are looked up once, and its worlds are read in place. Stored times are counted for
+/// some questions: none are read for one about an unknown node or edge.
 ///
 /// # Errors
 /// `Unbuilt` where the query is not answered yet, or `Memory`. After either, `out` is as it was.
@@ -75,11 +77,13 @@ pub fn answer_query<L: Ledger>(
     steps: &mut Steps<L>,
 ) -> Result<(), AnswerFault>
     requires { IsTrue (query_in_range query.now) }
-    ensures rows { OnOk result (out.new.items ≡ out.old.items ++ rows_text (answer_block (base_of store.now) line query.now)) }
+    ensures block { OnOk result
+        (AddsAnswer (base_of store.now) line query.now out.old.items out.new.items) }
     ensures unbuilt { IsErrOf result AnswerFault.Unbuilt ↔ (is_answered query.now ≡ false) }
     ensures unchanged { OnErr result (out.new.items ≡ out.old.items) }
     ensures unread { is_answered query.now ≡ false → steps.new ≡ steps.old }
-    ensures cost { IsTrue (is_counted_query store.now.model query.now) → steps.new ≤ steps.old + query_steps (size_of store.now) query.now }
+    ensures cost { IsTrue (is_counted_query store.now.model query.now)
+        → steps.new ≤ steps.old + query_steps (size_of store.now) query.now }
 {
     if !answers(query) {
         return Err(AnswerFault::Unbuilt);
@@ -87,6 +91,6 @@ pub fn answer_query<L: Ledger>(
     let mut block = RowWriter::new(alloc);
     add_query(&mut block, line, &query.ask, 1)?;
     add_seen_part(alloc, &mut block, store, query, steps)?;
-    append(out, block)?;
+    append_rows(out, block)?;
     Ok(())
 }

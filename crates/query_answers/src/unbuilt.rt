@@ -1,7 +1,7 @@
 // Which queries are answered.
 ghost use Rattle.std.specs.Prelude.{◌≡◌};
 ghost use Rattle.view_answers.specs.Plain.{is_plain};
-ghost use Rattle.query_run.specs.Answered.{is_answered};
+ghost use Rattle.query_answers.specs.Refusing.{is_answered};
 
 use graph_model::{Ask, Query};
 

@@ -1,7 +1,6 @@
-pub mod Answered
 pub mod Causes
 pub mod Told
 pub mod Cost
-pub mod Rows
+pub mod Blocks
 pub mod Runs
 pub mod Commands

@@ -5,7 +5,7 @@ use Rattle.graph_model.specs.declared.events.Model.{Model}
 use Rattle.graph_model.specs.Command.{Command, Files}
 use Rattle.graph_model.specs.Output.{IsOutput, is_clean}
 use Rattle.outside_io.specs.Outside.{IsLonger, IsMissing, bytes_of}
-use Rattle.query_run.specs.Answered.{is_answered}
+use Rattle.query_answers.specs.Refusing.{asked_refusal}
 use Rattle.query_run.specs.Cost.{counted_steps, is_counted_script}
 use Rattle.query_run.specs.declared.top.Which.{Which}
 use Rattle.query_run.specs.declared.top.Which.TheVariants.{Events, Script}
@@ -20,16 +20,21 @@ HasFiles (Some (Files model events script)) (Some files) P = (e : List ℕ) × (
 
 -- the whole output was written behind what was there
 abbrev pub WritesAll : Option (List ℕ) → Option (List ℕ) → Model → List ℕ → List ℕ → Type 0
-WritesAll old new model events script = (text : List ℕ) × IsOutput is_answered model events script text × (new ≡ append_known old text)
+WritesAll old new model events script = (text : List ℕ)
+    × IsOutput asked_refusal model events script text × (new ≡ append_known old text)
 
 -- a front of the output was written behind what was there
 abbrev pub WritesFrontOf : Option (List ℕ) → Option (List ℕ) → Model → List ℕ → List ℕ → Type 0
-WritesFrontOf old new model events script = (text : List ℕ) × IsOutput is_answered model events script text × (n : ℕ) × (n ≤ length text) × (new ≡ append_known old (take n text))
+WritesFrontOf old new model events script = (text : List ℕ)
+    × IsOutput asked_refusal model events script text
+    × (n : ℕ) × (n ≤ length text) × (new ≡ append_known old (take n text))
 
 -- what was written, by the status
 abbrev pub Writes : Status → Option Command → Option (List (List ℕ × List ℕ)) → Option (List ℕ) → Option (List ℕ) → Type 0
-Writes Done command files old new = HasFiles command files (λ model events script. WritesAll old new model events script × (is_clean is_answered model events script ≡ true))
-Writes DoneWithRefusals command files old new = HasFiles command files (λ model events script. WritesAll old new model events script × (is_clean is_answered model events script ≡ false))
+Writes Done command files old new = HasFiles command files (λ model events script.
+    WritesAll old new model events script × (is_clean asked_refusal model events script ≡ true))
+Writes DoneWithRefusals command files old new = HasFiles command files (λ model events script.
+    WritesAll old new model events script × (is_clean asked_refusal model events script ≡ false))
 Writes OutputFault command files old new = HasFiles command files (WritesFrontOf old new)
 Writes Usage command files old new = new ≡ old
 Writes Memory command files old new = new ≡ old
@@ -99,7 +104,8 @@ IsAmiss command files = (command ≡ None) ⊎ (Misses command files Events ⊎ 
 abbrev pub AddsUpTo : Model → Option (List ℕ) → Option (List ℕ) → ℕ → ℕ → Type 0
 AddsUpTo model None script old new = new ≡ old
 AddsUpTo model (Some events) None old new = new ≡ old
-AddsUpTo model (Some events) (Some script) old new = IsTrue (is_counted_script model script) → new ≤ old + counted_steps model events script
+AddsUpTo model (Some events) (Some script) old new = IsTrue (is_counted_script model events script)
+    → new ≤ old + counted_steps model events script
 
 abbrev pub IsCounted : Option Command → Option (List (List ℕ × List ℕ)) → ℕ → ℕ → Type 0
 IsCounted None files old new = new ≡ old

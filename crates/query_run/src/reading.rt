@@ -8,7 +8,8 @@ ghost use Rattle.graph_model.specs.Searches.{digits};
 ghost use Rattle.event_rows.specs.Parsing.{IsAtFront, IsWithin, said_of};
 ghost use Rattle.query_run.specs.Causes.{refusal_of};
 ghost use Rattle.query_run.specs.Told.{IsFresh, told};
-ghost use Rattle.query_run.specs.Cost.{most_steps, paid_steps, size_of, size_read};
+ghost use Rattle.query_answers.specs.Cost.{size_of};
+ghost use Rattle.query_run.specs.Cost.{most_steps, paid_steps, size_read};
 
 use crate::causes::{Cause, row_cause, store_cause};
 use csv::ByteRecord;

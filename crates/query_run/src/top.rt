@@ -5,7 +5,7 @@ ghost use Rattle.graph_model.specs.Command.{command};
 ghost use Rattle.outside_io.specs.Outside.{Rises};
 ghost use Rattle.query_run.specs.Runs.{HasEvents, IsAmiss, IsAnswered, IsCounted, IsOver, IsTooLong, IsWriting, Misses, Writes};
 
-use crate::output::answer_files;
+use crate::file_output::answer_files;
 use crate::words::read_words;
 use graph_model::Words;
 use outside_io::{Inputs, Output, ReadFault, Sink, read_all, write_all};

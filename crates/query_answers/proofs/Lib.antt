@@ -1,0 +1,2 @@
+pub mod QueryBlocks
+pub mod QueryCosts
