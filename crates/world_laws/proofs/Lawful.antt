@@ -93,7 +93,7 @@ both_true true b h k = sym (h refl)
 both_true false true h k = k refl
 both_true false false h k = refl
 
-same_type-sym : (a b : Value) → same_type a b ≡ same_type b a
+pub same_type-sym : (a b : Value) → same_type a b ≡ same_type b a
 same_type-sym (Int a) (Int b) = refl
 same_type-sym (Int a) (Flag b) = refl
 same_type-sym (Int a) (Text b) = refl
@@ -107,10 +107,11 @@ same_type-sym (Text a) (Text b) = refl
 same_name-sym : (a b : List ℕ) → same_name a b ≡ same_name b a
 same_name-sym a b = (eq_by_cmp_equiv name_total).symm a b
 
-abbrev agree : List ℕ × Value → List ℕ × Value → Bool
+-- the values of two properties have one type where their keys are one
+abbrev pub agree : List ℕ × Value → List ℕ × Value → Bool
 agree p q = not (same_name p.0 q.0) || same_type p.1 q.1
 
-agree-sym : (p q : List ℕ × Value) → agree p q ≡ agree q p
+pub agree-sym : (p q : List ℕ × Value) → agree p q ≡ agree q p
 agree-sym p q = let m = same_name-sym p.0 q.0 in let t = same_type-sym p.1 q.1 in λ k. not (m k) || t k
 
 props_agree_back : (ps qs : List (List ℕ × Value)) → props_agree ps qs ≡ true → props_agree qs ps ≡ true
@@ -125,7 +126,7 @@ beq-sym true false = refl
 beq-sym false true = refl
 beq-sym false false = refl
 
-types_agree-sym : (x y : Event) → types_agree x y ≡ types_agree y x
+pub types_agree-sym : (x y : Event) → types_agree x y ≡ types_agree y x
 types_agree-sym x y = let m = beq-sym (is_node (entity_of x)) (is_node (entity_of y)) in let t = props_agree-sym (props_of x) (props_of y) in λ k. not (m k) || t k
 
 -- an event of another kind, or all of whose properties pass a test
