@@ -36,7 +36,8 @@ pub enum What {
     Delete(EdgeName),
 }
 
-/// An event: when it happens, from -2^62 to 2^62 - 1, and what. The order tells apart the events of one entity at one time.
+/// An event: when it happens, from -2^62 to 2^62 - 1, and what. The order tells apart the events of
+/// one entity at one time.
 #[derive(Drop)]
 pub struct Event {
     pub time: i64,

@@ -1,4 +1,5 @@
-//! The public types of a temporal property graph, and the definitions that say what its answers mean.
+//! The public types of a temporal property graph, and the definitions that say what its answers
+//! mean.
 #![tactic(auto)]
 
 mod events;

@@ -49,7 +49,8 @@ struct Prop {
     value: Value,
 }
 
-/// The properties of one event: at most 256. A contract sees the pairs of key and value, rising by key.
+/// The properties of one event: at most 256. A contract sees the pairs of key and value, rising by
+/// key.
 #[derive(Drop)]
 pub struct Props {
     items: Vec<Prop>,
@@ -66,7 +67,8 @@ impl std::marker::Model for Props {
 
     ghost view = { λ a. map (λ p. (p.key, p.value)) a.items.items };
 
-    ghost invariant = { λ a. (vec_len a.items ≤ most_properties) × KeysRise (map (λ p. (p.key, p.value)) a.items.items) };
+    ghost invariant = { λ a. (vec_len a.items ≤ most_properties)
+        × KeysRise (map (λ p. (p.key, p.value)) a.items.items) };
 }
 
 impl Props {
@@ -173,7 +175,8 @@ impl From<AllocError> for PropsFault {
 
 /// Puts an item in its place.
 fn put_item(items: &mut Vec<Prop>, item: Prop) -> Result<(), AllocError>
-    ensures ok { OnOk result (pairs items.new.items ≡ put_prop (item.key, item.value) (pairs items.old.items)) }
+    ensures ok { OnOk result
+        (pairs items.new.items ≡ put_prop (item.key, item.value) (pairs items.old.items)) }
     ensures err { OnErr result (items.new.items ≡ items.old.items) }
 {
     let place = place_of(items.as_slice(), &item.key);

@@ -135,7 +135,8 @@ impl TypeList {
 /// A view of a graph.
 #[derive(Drop)]
 pub enum Op {
-    /// The moments from the first number up to but not including the second, each from -2^62 to 2^62.
+    /// The moments from the first number up to but not including the second, each from -2^62 to
+    /// 2^62.
     Window(i64, i64),
     /// One moment, from -2^62 to 2^62 - 1.
     At(i64),
@@ -243,7 +244,8 @@ pub enum Ask {
     Core(u32),
     /// The core number of each present node.
     CoreNumbers,
-    /// When journeys from the seeds, begun at a moment from -2^62 to 2^62 - 1 or later, first reach each node.
+    /// When journeys from the seeds, begun at a moment from -2^62 to 2^62 - 1 or later, first reach
+    /// each node.
     Arrival(i64, NameList),
     /// The events of a node.
     NodeHistory(Name),

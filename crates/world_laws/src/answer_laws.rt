@@ -21,24 +21,43 @@ pub fn plain_questions_have_answers()
     ensures edges { (w : World) → IsAnswer w Edges (map Linked (edges w)) }
     ensures events { (w : World) → IsAnswer w Events (extent_row w.events ∷ []) }
     ensures degree { (w : World) → IsAnswer w Degree (map (degree_row w) (nodes w)) }
-    ensures node_history { (w : World) (node : List ℕ) → IsAnswer w (NodeHistory node) (history_rows (λ x. codes "node") 0 (events_of w (Node node))) }
-    ensures edge_history { (w : World) (edge : EdgeName) → IsAnswer w (EdgeHistory edge) (history_rows edge_kind 0 (events_of w (Edge edge))) }
-    ensures node_value { (w : World) (node key : List ℕ) → IsAnswer w (NodeValue node key) (value_rows (value_of key (events_of w (Node node)))) }
-    ensures edge_value { (w : World) (edge : EdgeName) (key : List ℕ) → IsAnswer w (EdgeValue edge key) (value_rows (value_of key (events_of w (Edge edge)))) }
+    ensures node_history { (w : World) (node : List ℕ)
+        → IsAnswer w (NodeHistory node)
+        (history_rows (λ x. codes "node") 0 (events_of w (Node node))) }
+    ensures edge_history { (w : World) (edge : EdgeName)
+        → IsAnswer w (EdgeHistory edge) (history_rows edge_kind 0 (events_of w (Edge edge))) }
+    ensures node_value { (w : World) (node key : List ℕ)
+        → IsAnswer w (NodeValue node key) (value_rows (value_of key (events_of w (Node node)))) }
+    ensures edge_value { (w : World) (edge : EdgeName) (key : List ℕ)
+        → IsAnswer w (EdgeValue edge key) (value_rows (value_of key (events_of w (Edge edge)))) }
     ensures updates { (w : World) → IsAnswer w Updates (map (update_row w) (named_nodes w)) }
-    ensures edge_alive { (w : World) (edge : EdgeName) (m : ℤ) → IsAnswer w (EdgeAlive edge m) (Lives (alive_at w edge m) ∷ []) }
+    ensures edge_alive { (w : World) (edge : EdgeName) (m : ℤ)
+        → IsAnswer w (EdgeAlive edge m) (Lives (alive_at w edge m) ∷ []) }
 {}
 
 /// A question about a lawful world has exactly one answer.
 pub fn every_question_has_one_answer()
     ensures some { (w : World) (ask : Ask) → IsLawful w → (rows : List Row) × IsAnswer w ask rows }
-    ensures one { (w : World) (ask : Ask) (xs ys : List Row) → IsAnswer w ask xs → IsAnswer w ask ys → xs ≡ ys }
+    ensures one { (w : World) (ask : Ask) (xs ys : List Row)
+        → IsAnswer w ask xs
+        → IsAnswer w ask ys
+        → xs ≡ ys }
 {}
 
-/// A distance and a core number are less than the number of present nodes. An arrival is inside the bounds, and not before the start.
+/// A distance and a core number are less than the number of present nodes. An arrival is inside the
+/// bounds, and not before the start.
 pub fn answers_lie_within_the_world()
-    ensures distance { (w : World) (d : Direction) (a b : List ℕ) (n : ℕ) → IsDistance w d a b n → n < length (nodes w) }
-    ensures core_number { (w : World) (node : List ℕ) (k : ℕ) → IsCoreNumber w node k → k < length (nodes w) }
-    ensures arrival { (w : World) (seeds : List (List ℕ)) (start : ℤ) (node : List ℕ) (m : ℤ) → IsLawful w → IsArrival w seeds start node m → IsTrue (is_inside w.bounds m) }
-    ensures started { (w : World) (seeds : List (List ℕ)) (start : ℤ) (node : List ℕ) (m : ℤ) → IsArrival w seeds start node m → start ≤ℤ m }
+    ensures distance { (w : World) (d : Direction) (a b : List ℕ) (n : ℕ)
+        → IsDistance w d a b n
+        → n < length (nodes w) }
+    ensures core_number { (w : World) (node : List ℕ) (k : ℕ)
+        → IsCoreNumber w node k
+        → k < length (nodes w) }
+    ensures arrival { (w : World) (seeds : List (List ℕ)) (start : ℤ) (node : List ℕ) (m : ℤ)
+        → IsLawful w
+        → IsArrival w seeds start node m
+        → IsTrue (is_inside w.bounds m) }
+    ensures started { (w : World) (seeds : List (List ℕ)) (start : ℤ) (node : List ℕ) (m : ℤ)
+        → IsArrival w seeds start node m
+        → start ≤ℤ m }
 {}

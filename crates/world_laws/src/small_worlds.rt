@@ -1,4 +1,5 @@
-//! What the definitions say of small graphs. The functions do nothing: their contracts are the facts.
+//! What the definitions say of small graphs. The functions do nothing: their contracts are the
+//! facts.
 ghost use Rattle.std.specs.Prelude.{codes, ◌≡◌, ◌≢◌, ℕ, ℤ, pos, negsuc, List, [], ◌∷◌, ◌++◌, Some, None, true, false, map};
 ghost use Rattle.graph_model.specs.declared.queries.Cmp.TheVariants.{Gt, Ne, Eq};
 ghost use Rattle.graph_model.specs.declared.queries.Each.TheVariants.{Rolling, Expanding};
@@ -28,20 +29,25 @@ ghost use Rattle.graph_model.specs.declared.events.What.TheVariants.{Node as Upd
 
 /// A window includes its beginning and excludes its end.
 pub fn window_excludes_its_end()
-    ensures bounds { (apply (Window (pos 1) (pos 5) ∷ []) two_edges).bounds ≡ record { lo = pos 1; hi = pos 5 } }
+    ensures bounds { (apply (Window (pos 1) (pos 5) ∷ []) two_edges).bounds
+        ≡ record { lo = pos 1; hi = pos 5 } }
     ensures edges { edges (apply (Window (pos 1) (pos 5) ∷ []) two_edges) ≡ link a b ∷ [] }
 {}
 
 /// A window that ends before it begins is empty, and a window of it is too.
 pub fn empty_window_stays_empty()
-    ensures bounds { (apply (Window (pos 5) (pos 3) ∷ Window (pos 0) (pos 9) ∷ []) two_edges).bounds ≡ record { lo = pos 5; hi = pos 5 } }
-    ensures none { (apply (Window (pos 5) (pos 3) ∷ Window (pos 0) (pos 9) ∷ []) two_edges).events ≡ [] }
+    ensures bounds { (apply (Window (pos 5) (pos 3) ∷ Window (pos 0) (pos 9) ∷ []) two_edges).bounds
+        ≡ record { lo = pos 5; hi = pos 5 } }
+    ensures none { (apply (Window (pos 5) (pos 3) ∷ Window (pos 0) (pos 9) ∷ []) two_edges).events
+        ≡ [] }
 {}
 
 /// What is carried into a window is not carried out of its bounds.
 pub fn window_outside_a_window_is_empty()
-    ensures bounds { (apply (Window (pos 0) (pos 5) ∷ Window (pos 7) (pos 9) ∷ []) lasting).bounds ≡ record { lo = pos 7; hi = pos 7 } }
-    ensures none { edges (apply (Window (pos 0) (pos 5) ∷ Window (pos 7) (pos 9) ∷ []) lasting) ≡ [] }
+    ensures bounds { (apply (Window (pos 0) (pos 5) ∷ Window (pos 7) (pos 9) ∷ []) lasting).bounds
+        ≡ record { lo = pos 7; hi = pos 7 } }
+    ensures none { edges (apply (Window (pos 0) (pos 5) ∷ Window (pos 7) (pos 9) ∷ []) lasting)
+        ≡ [] }
 {}
 
 /// An edge lasts from its addition until its deletion.
@@ -54,9 +60,11 @@ pub fn edge_lasts_until_it_is_deleted()
 
 /// Events of one time stand by their orders, and what is carried comes before them.
 pub fn orders_stand_within_a_time()
-    ensures history { events_of ordered (Edge (link a b)) ≡ added 4 a b ∷ added_in 5 1 a b ∷ deleted_in 5 2 a b ∷ [] }
+    ensures history { events_of ordered (Edge (link a b))
+        ≡ added 4 a b ∷ added_in 5 1 a b ∷ deleted_in 5 2 a b ∷ [] }
     ensures deleted { alive_at ordered (link a b) (pos 5) ≡ false }
-    ensures carried { (apply (Window (pos 5) (pos 9) ∷ []) ordered).events ≡ added 5 a b ∷ added_in 5 1 a b ∷ deleted_in 5 2 a b ∷ [] }
+    ensures carried { (apply (Window (pos 5) (pos 9) ∷ []) ordered).events
+        ≡ added 5 a b ∷ added_in 5 1 a b ∷ deleted_in 5 2 a b ∷ [] }
     ensures text { time_text (added_in 5 1 a b) ≡ signed_decimal (pos 5) ++ codes "@" ++ decimal 1 }
     ensures plain { time_text (added 5 a b) ≡ signed_decimal (pos 5) ++ [] }
 {}
@@ -66,13 +74,18 @@ pub fn types_are_of_named_nodes()
     ensures types { typed.types ≡ (a, x) ∷ (b, y) ∷ (c, x) ∷ [] }
     ensures nodes { nodes typed ≡ a ∷ b ∷ c ∷ [] }
     ensures edges { edges (apply (NodeTypes (x ∷ []) ∷ []) typed) ≡ link a c ∷ [] }
-    ensures rows { world_rows (apply (Window (pos 1) (pos 2) ∷ []) typed) ≡ Spanned (between (pos 1) (pos 2)) ∷ Typed a x ∷ Typed b y ∷ Recorded (added 1 a b) ∷ [] }
+    ensures rows { world_rows (apply (Window (pos 1) (pos 2) ∷ []) typed)
+        ≡ Spanned (between (pos 1) (pos 2)) ∷ Typed a x ∷ Typed b y ∷ Recorded (added 1 a b) ∷ [] }
 {}
 
 /// Updates are counted in each window, with the events that are carried into it.
 pub fn updates_take_in_what_is_carried()
-    ensures rolling { map (λ (v : World). updates v a) (windows seven_moments (Some (Rolling (pos 3) (pos 2)))) ≡ 2 ∷ 3 ∷ 3 ∷ 2 ∷ [] }
-    ensures carried { map (λ (v : World). updates v b) (windows added_again (Some (Rolling (pos 4) (pos 4)))) ≡ 1 ∷ 2 ∷ 1 ∷ [] }
+    ensures rolling { map (λ (v : World). updates v a)
+        (windows seven_moments (Some (Rolling (pos 3) (pos 2))))
+        ≡ 2 ∷ 3 ∷ 3 ∷ 2 ∷ [] }
+    ensures carried { map (λ (v : World). updates v b)
+        (windows added_again (Some (Rolling (pos 4) (pos 4))))
+        ≡ 1 ∷ 2 ∷ 1 ∷ [] }
     ensures looped { updates loop a ≡ 1 }
     ensures names { named_nodes added_again ≡ a ∷ b ∷ [] }
 {}
@@ -81,21 +94,30 @@ pub fn updates_take_in_what_is_carried()
 pub fn equals_stand_as_they_arrived()
     ensures events { twice.events ≡ added_with 1 a b 7 ∷ added_with 1 a b 3 ∷ [] }
     ensures value { value_of w (events_of twice (Edge (link a b))) ≡ Some (Int (pos 3)) }
-    ensures late { put_after event_cmp (added_with 1 a b 3) (added_with 1 a b 7 ∷ []) ≡ added_with 1 a b 7 ∷ added_with 1 a b 3 ∷ [] }
+    ensures late { put_after event_cmp (added_with 1 a b 3) (added_with 1 a b 7 ∷ [])
+        ≡ added_with 1 a b 7 ∷ added_with 1 a b 3 ∷ [] }
 {}
 
 /// A later value stands over an earlier one, also where both are carried.
 pub fn later_values_stand_over_earlier_ones()
-    ensures carried { (apply (Window (pos 6) (pos 8) ∷ []) lasting_value).events ≡ added_with 6 a b 1 ∷ [] }
-    ensures earlier { value_of w (events_of (apply (Window (pos 2) (pos 4) ∷ []) lasting_value) (Edge (link a b))) ≡ Some (Int (pos 9)) }
+    ensures carried { (apply (Window (pos 6) (pos 8) ∷ []) lasting_value).events
+        ≡ added_with 6 a b 1 ∷ [] }
+    ensures earlier { value_of w
+        (events_of (apply (Window (pos 2) (pos 4) ∷ []) lasting_value) (Edge (link a b)))
+        ≡ Some (Int (pos 9)) }
 {}
 
 /// A deletion forgets the values that were set before it.
 pub fn deletion_forgets_values()
     ensures carried { (apply (Window (pos 6) (pos 8) ∷ []) forgotten).events ≡ added 6 a b ∷ [] }
-    ensures twice { (apply (Window (pos 2) (pos 8) ∷ Window (pos 6) (pos 8) ∷ []) forgotten).events ≡ added 6 a b ∷ [] }
-    ensures forgotten { value_of w (events_of (apply (Window (pos 6) (pos 8) ∷ []) forgotten) (Edge (link a b))) ≡ None }
-    ensures kept { value_of w (events_of (apply (Window (pos 2) (pos 3) ∷ []) forgotten) (Edge (link a b))) ≡ Some (Int (pos 7)) }
+    ensures twice { (apply (Window (pos 2) (pos 8) ∷ Window (pos 6) (pos 8) ∷ []) forgotten).events
+        ≡ added 6 a b ∷ [] }
+    ensures forgotten { value_of w
+        (events_of (apply (Window (pos 6) (pos 8) ∷ []) forgotten) (Edge (link a b)))
+        ≡ None }
+    ensures kept { value_of w
+        (events_of (apply (Window (pos 2) (pos 3) ∷ []) forgotten) (Edge (link a b)))
+        ≡ Some (Int (pos 7)) }
 {}
 
 /// The numbers of binary digits.
@@ -108,30 +130,55 @@ pub fn digits_of_numbers()
 
 /// A filter by value sees the values in its world, so it does not change places with a window.
 pub fn value_filter_and_window_do_not_change_places()
-    ensures filter_first { edges (apply (EdgesWhere w Gt (Int (pos 5)) ∷ Window (pos 0) (pos 3) ∷ []) falling) ≡ [] }
-    ensures window_first { edges (apply (Window (pos 0) (pos 3) ∷ EdgesWhere w Gt (Int (pos 5)) ∷ []) falling) ≡ link a b ∷ [] }
+    ensures filter_first { edges
+        (apply (EdgesWhere w Gt (Int (pos 5)) ∷ Window (pos 0) (pos 3) ∷ []) falling)
+        ≡ [] }
+    ensures window_first { edges
+        (apply (Window (pos 0) (pos 3) ∷ EdgesWhere w Gt (Int (pos 5)) ∷ []) falling)
+        ≡ link a b ∷ [] }
     ensures unknown_key { edges (apply (EdgesWhere z Ne (Int (pos 5)) ∷ []) falling) ≡ [] }
-    ensures differ { apply (EdgesWhere w Gt (Int (pos 5)) ∷ Window (pos 0) (pos 3) ∷ []) falling ≢ apply (Window (pos 0) (pos 3) ∷ EdgesWhere w Gt (Int (pos 5)) ∷ []) falling }
+    ensures differ { apply (EdgesWhere w Gt (Int (pos 5)) ∷ Window (pos 0) (pos 3) ∷ []) falling
+        ≢ apply (Window (pos 0) (pos 3) ∷ EdgesWhere w Gt (Int (pos 5)) ∷ []) falling }
 {}
 
-/// An edge is valid by its last event in its world, so `valid` does not change places with a window.
+/// An edge is valid by its last event in its world, so `valid` does not change places with a
+/// window.
 pub fn valid_and_window_do_not_change_places()
-    ensures valid_first { edges (apply (Valid ∷ Window (pos 0) (pos 5) ∷ []) mixed) ≡ link b c ∷ [] }
-    ensures window_first { edges (apply (Window (pos 0) (pos 5) ∷ Valid ∷ []) mixed) ≡ link a b ∷ link b c ∷ [] }
-    ensures differ { apply (Valid ∷ Window (pos 0) (pos 5) ∷ []) mixed ≢ apply (Window (pos 0) (pos 5) ∷ Valid ∷ []) mixed }
+    ensures valid_first { edges (apply (Valid ∷ Window (pos 0) (pos 5) ∷ []) mixed)
+        ≡ link b c ∷ [] }
+    ensures window_first { edges (apply (Window (pos 0) (pos 5) ∷ Valid ∷ []) mixed)
+        ≡ link a b ∷ link b c ∷ [] }
+    ensures differ { apply (Valid ∷ Window (pos 0) (pos 5) ∷ []) mixed
+        ≢ apply (Window (pos 0) (pos 5) ∷ Valid ∷ []) mixed }
 {}
 
 /// A filter between two windows sees the world of the first alone.
 pub fn value_filter_between_two_windows()
-    ensures between { edges (apply (Window (pos 0) (pos 9) ∷ Layers (l ∷ []) ∷ EdgesWhere w Eq (Int (pos 9)) ∷ Window (pos 2) (pos 5) ∷ []) falls_late) ≡ [] }
-    ensures last { edges (apply (Window (pos 0) (pos 9) ∷ Layers (l ∷ []) ∷ Window (pos 2) (pos 5) ∷ EdgesWhere w Eq (Int (pos 9)) ∷ []) falls_late) ≡ link a b ∷ [] }
+    ensures between { edges (apply
+        (Window (pos 0) (pos 9) ∷ Layers (l ∷ []) ∷ EdgesWhere w Eq (Int (pos 9))
+        ∷ Window (pos 2) (pos 5) ∷ [])
+        falls_late)
+        ≡ [] }
+    ensures last { edges (apply
+        (Window (pos 0) (pos 9) ∷ Layers (l ∷ []) ∷ Window (pos 2) (pos 5)
+        ∷ EdgesWhere w Eq (Int (pos 9)) ∷ [])
+        falls_late)
+        ≡ link a b ∷ [] }
 {}
 
 /// Windows roll or expand from the first event, and the last has the last event.
 pub fn windows_cover_the_events()
-    ensures overlapping { extents (windows seven_moments (Some (Rolling (pos 3) (pos 2)))) ≡ (between (negsuc 0) (pos 2), Extent 2 (Some (pos 0, pos 1))) ∷ (between (pos 1) (pos 4), Extent 3 (Some (pos 1, pos 3))) ∷ (between (pos 3) (pos 6), Extent 3 (Some (pos 3, pos 5))) ∷ (between (pos 5) (pos 8), Extent 2 (Some (pos 5, pos 6))) ∷ [] }
-    ensures apart { extents (windows seven_moments (Some (Rolling (pos 1) (pos 5)))) ≡ (between (pos 4) (pos 5), Extent 1 (Some (pos 4, pos 4))) ∷ (between (pos 9) (pos 10), Extent 0 None) ∷ [] }
-    ensures expanding { extents (windows seven_moments (Some (Expanding (pos 4)))) ≡ (between (pos 0) (pos 4), Extent 4 (Some (pos 0, pos 3))) ∷ (between (pos 0) (pos 8), Extent 7 (Some (pos 0, pos 6))) ∷ [] }
+    ensures overlapping { extents (windows seven_moments (Some (Rolling (pos 3) (pos 2))))
+        ≡ (between (negsuc 0) (pos 2), Extent 2 (Some (pos 0, pos 1)))
+        ∷ (between (pos 1) (pos 4), Extent 3 (Some (pos 1, pos 3)))
+        ∷ (between (pos 3) (pos 6), Extent 3 (Some (pos 3, pos 5)))
+        ∷ (between (pos 5) (pos 8), Extent 2 (Some (pos 5, pos 6))) ∷ [] }
+    ensures apart { extents (windows seven_moments (Some (Rolling (pos 1) (pos 5))))
+        ≡ (between (pos 4) (pos 5), Extent 1 (Some (pos 4, pos 4)))
+        ∷ (between (pos 9) (pos 10), Extent 0 None) ∷ [] }
+    ensures expanding { extents (windows seven_moments (Some (Expanding (pos 4))))
+        ≡ (between (pos 0) (pos 4), Extent 4 (Some (pos 0, pos 3)))
+        ∷ (between (pos 0) (pos 8), Extent 7 (Some (pos 0, pos 6))) ∷ [] }
 {}
 
 /// A triangle is a set in which each node has two neighbours.
@@ -155,9 +202,11 @@ pub fn views_of_a_mixed_graph()
 
 /// Neighbours are counted once, in however many layers an edge is.
 pub fn neighbours_are_counted_once()
-    ensures degrees { map (degree_row layered) (nodes layered) ≡ Degrees a 0 1 1 ∷ Degrees b 1 0 1 ∷ [] }
+    ensures degrees { map (degree_row layered) (nodes layered)
+        ≡ Degrees a 0 1 1 ∷ Degrees b 1 0 1 ∷ [] }
     ensures unknown_layer { nodes (apply (Layers (z ∷ []) ∷ []) layered) ≡ [] }
-    ensures other_layer { edges (apply (ExcludeLayers (y ∷ []) ∷ []) layered) ≡ record { src = a; dst = b; layer = x } ∷ [] }
+    ensures other_layer { edges (apply (ExcludeLayers (y ∷ []) ∷ []) layered)
+        ≡ record { src = a; dst = b; layer = x } ∷ [] }
     ensures looped { map (degree_row loop) (nodes loop) ≡ Degrees a 1 1 1 ∷ Degrees b 0 0 0 ∷ [] }
 {}
 
@@ -171,7 +220,9 @@ pub fn journeys_rise_strictly()
 
 /// However late they come, events stand in order of time.
 pub fn late_events_stand_in_order_of_time()
-    ensures { history_rows edge_kind 0 (events_of arrived_late (Edge (link a b))) ≡ Happened 0 (pos 1) (codes "edge") ∷ Happened 1 (pos 3) (codes "edge") ∷ Happened 2 (pos 5) (codes "edge") ∷ [] }
+    ensures { history_rows edge_kind 0 (events_of arrived_late (Edge (link a b)))
+        ≡ Happened 0 (pos 1) (codes "edge") ∷ Happened 1 (pos 3) (codes "edge")
+        ∷ Happened 2 (pos 5) (codes "edge") ∷ [] }
 {}
 
 /// A type makes no node present.
@@ -180,33 +231,42 @@ pub fn type_alone_makes_no_node_present()
     ensures nodes { nodes type_alone ≡ [] }
 {}
 
-/// An edge that is deleted at the moment of its addition is never alive, and its ends are not present by it; nor are those of an edge that is deleted alone.
+/// An edge that is deleted at the moment of its addition is never alive, and its ends are not
+/// present by it; nor are those of an edge that is deleted alone.
 pub fn deletion_at_the_moment_of_its_edge()
     ensures alone { nodes (base_of Persistent (deleted 1 a b ∷ [])) ≡ [] }
-    ensures at_once { map (degree_row deleted_at_once) (nodes deleted_at_once) ≡ Degrees c 0 1 1 ∷ Degrees d 1 0 1 ∷ [] }
+    ensures at_once { map (degree_row deleted_at_once) (nodes deleted_at_once)
+        ≡ Degrees c 0 1 1 ∷ Degrees d 1 0 1 ∷ [] }
 {}
 
 /// A node is carried as an update, an edge as an addition, each with its values.
 pub fn nodes_and_edges_are_carried()
-    ensures { (apply (Window (pos 5) (pos 9) ∷ []) valued).events ≡ record { time = pos 5; order = 0; what = Update b ((n, Text d) ∷ []) } ∷ added_with 5 a b 3 ∷ [] }
+    ensures { (apply (Window (pos 5) (pos 9) ∷ []) valued).events
+        ≡ record { time = pos 5; order = 0; what = Update b ((n, Text d) ∷ []) }
+        ∷ added_with 5 a b 3 ∷ [] }
 {}
 
 /// Nothing is carried beyond the end of a world.
 pub fn nothing_is_carried_beyond_the_end()
-    ensures { extents (windows ten_moments (Some (Rolling (pos 1) (pos 20)))) ≡ (between (pos 20) (pos 20), Extent 0 None) ∷ [] }
+    ensures { extents (windows ten_moments (Some (Rolling (pos 1) (pos 20))))
+        ≡ (between (pos 20) (pos 20), Extent 0 None) ∷ [] }
 {}
 
 /// Sixty-four equal windows are one window, at the cost of one once they are fused.
 pub fn sixty_four_windows_are_one()
-    ensures alive { alive_at (apply (sixty_four (Window (pos 0) (pos 7))) seven_moments) (link a b) (pos 3) ≡ true }
+    ensures alive { alive_at (apply (sixty_four (Window (pos 0) (pos 7))) seven_moments) (link a b)
+        (pos 3)
+        ≡ true }
     ensures searches { searches (sixty_four IsWindow) ≡ record { nodes = 128; edges = 128 } }
     ensures fused { fused_searches (sixty_four IsWindow) ≡ record { nodes = 2; edges = 2 } }
-    ensures apart { fused_searches (IsWindow ∷ IsNodeFilter ∷ IsWindow ∷ IsNameView ∷ IsWindow ∷ []) ≡ record { nodes = 4; edges = 8 } }
+    ensures apart { fused_searches (IsWindow ∷ IsNodeFilter ∷ IsWindow ∷ IsNameView ∷ IsWindow ∷ [])
+        ≡ record { nodes = 4; edges = 8 } }
 {}
 
 /// Each view stands on what the one before it leaves.
 pub fn nested_views_leave_one_neighbour()
-    ensures { map (degree_row (nested in_two_layers)) (nodes (nested in_two_layers)) ≡ Degrees b 0 1 1 ∷ Degrees c 1 0 1 ∷ [] }
+    ensures { map (degree_row (nested in_two_layers)) (nodes (nested in_two_layers))
+        ≡ Degrees b 0 1 1 ∷ Degrees c 1 0 1 ∷ [] }
 {}
 
 /// A world without events has no node and no window.
@@ -218,7 +278,8 @@ pub fn empty_world_has_no_windows()
 
 /// The neighbours of each of three nodes.
 pub fn three_edges_have_their_degrees()
-    ensures { map (degree_row three_edges) (nodes three_edges) ≡ Degrees a 0 2 2 ∷ Degrees b 1 1 2 ∷ Degrees c 2 0 2 ∷ [] }
+    ensures { map (degree_row three_edges) (nodes three_edges)
+        ≡ Degrees a 0 2 2 ∷ Degrees b 1 1 2 ∷ Degrees c 2 0 2 ∷ [] }
 {}
 
 /// Walks along two edges: distances, labels, components, and three views.
