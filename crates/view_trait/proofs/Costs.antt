@@ -1,5 +1,5 @@
 -- Searches among fewer events take no more steps.
-use Rattle.std.proofs.Common.{ℕ, ◌+◌, ◌*◌, ◌≤◌, arith}
+use Rattle.std.proofs.Common.{◌≡◌, ℕ, ◌+◌, ◌-◌, ◌*◌, ◌≤◌, subst, sym, ap, ◌∙◌, arith}
 use Rattle.graph_model.specs.Searches.{digits}
 use Rattle.world_laws.proofs.Digits.{digits-le}
 use Rattle.view_trait.specs.Meaning.{IsWithin}
@@ -21,3 +21,32 @@ IsWithin-then before between after first second among h k = grind arith
 -- fewer searches
 pub IsWithin-fewer : (before after searches more among : ℕ) → IsWithin before after searches among → IsWithin before after (more + searches) among
 IsWithin-fewer before after searches more among h = grind arith
+
+-- ---- searches that are made for each of some
+
+more_times : (a b s : ℕ) → a * s + b * s ≡ (a + b) * s
+more_times a b s = grind arith
+
+pub IsWithin-times : (before after a b s among : ℕ) → a ≤ b → IsWithin before after (a * s) among → IsWithin before after (b * s) among
+IsWithin-times before after a b s among l h =
+    let e : (b - a) + a ≡ b = omega arith in
+    subst (λ n. IsWithin before after n among) (more_times (b - a) a s ∙ ap (λ n. n * s) e) (IsWithin-fewer before after (a * s) ((b - a) * s) among h)
+
+-- one more of them, of which there were some left
+pub IsWithin-each : (before between after all left rest s among : ℕ) → left ≡ rest + 1 → left ≤ all → IsWithin before between ((all - left) * s) among → IsWithin between after s among → IsWithin before after ((all - rest) * s) among
+IsWithin-each before between after all left rest s among e l h k =
+    let one : 1 * s ≡ s = omega arith in
+    let more : 1 + (all - left) ≡ all - rest = omega (arith, e) in
+    subst (λ n. IsWithin before after n among) (ap (λ n. n + (all - left) * s) (sym one) ∙ (more_times 1 (all - left) s ∙ ap (λ n. n * s) more)) (IsWithin-then before between after ((all - left) * s) s among h k)
+
+-- one more span, of which two times are read
+pub spans_more : (before between after n s d : ℕ) → between ≤ before + (n * s) * d + 2 * n → after ≤ between + s * d + 2 → after ≤ before + ((n + 1) * s) * d + 2 * (n + 1)
+spans_more before between after n s d h k =
+    let e : (n * s) * d + s * d ≡ ((n + 1) * s) * d = grind arith in
+    omega (arith, h, k, e)
+
+-- and one after others
+pub spans_after : (before between after most m n s d : ℕ) → between ≤ before + (most + n * s) * d + 2 * (m + n) → after ≤ between + s * d + 2 → after ≤ before + (most + (n + 1) * s) * d + 2 * (m + (n + 1))
+spans_after before between after most m n s d h k =
+    let e : (most + n * s) * d + s * d ≡ (most + (n + 1) * s) * d = grind arith in
+    omega (arith, h, k, e)

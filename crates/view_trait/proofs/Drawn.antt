@@ -1,5 +1,5 @@
 -- Worlds that show what the accepted events say stay so under views.
-use Rattle.std.proofs.Common.{◌≡◌, ℕ, ℤ, Bool, true, false, List, [], ◌∷◌, ◌++◌, cond, map, length, ◌≤◌, Some, None, refl, sym, ◌∙◌, ap, subst}
+use Rattle.std.proofs.Common.{◌≡◌, ℕ, ℤ, Bool, true, false, List, [], ◌∷◌, ◌++◌, cond, map, Some, None, refl, sym, ◌∙◌, ap, subst}
 use Rattle.std.specs.Option.{option_map}
 use Rattle.std.specs.List.{filter, filter_map, cons_option, find, list_any, last_or, flat_map, AllByRecursion}
 use Rattle.std.proofs.lemmas.Bool.{cond_both, or_parts}
@@ -33,10 +33,9 @@ use Rattle.world_laws.proofs.Named.{named-window_list, named-filter}
 use Rattle.world_laws.proofs.Values.{last_props_value}
 use Rattle.world_laws.proofs.Windows.{events_of-window}
 use Rattle.graph_store.specs.Contents.{Contents, base_of}
-use Rattle.graph_store.specs.Indexed.{IsIndexed}
 use Rattle.view_trait.specs.Drawn.{LacksKey, IsDrawn}
 use Rattle.view_trait.proofs.Shown.{IsShown-window, IsShown-keep, events_of-keep}
-use Rattle.view_trait.proofs.Whole.{IsShown-base}
+use Rattle.view_trait.specs.Meaning.{IsShown}
 
 -- ---- keys that have no value
 
@@ -100,9 +99,9 @@ base_lacks key e q c own h =
 
 -- ---- the base world, and what views leave of a world
 
-pub IsDrawn-base : (c : Contents) → IsLawful (base_of c) → IsIndexed c → length c.layers ≤ 64 → IsDrawn c (base_of c)
-IsDrawn-base c h k few = record {
-  shown = IsShown-base c h k few;
+pub IsDrawn-base : (c : Contents) → IsShown c (base_of c) → IsDrawn c (base_of c)
+IsDrawn-base c h = record {
+  shown = h;
   nodes = λ name e. e;
   node_keys = λ key name e. base_lacks key (Node name) (λ (x : Event). is_node (entity_of x)) c (own_is_node name) e;
   edge_keys = λ key edge e. base_lacks key (Edge edge) (λ (x : Event). not (is_node (entity_of x))) c (own_is_edge edge) e;

@@ -1,5 +1,5 @@
 -- Layers and nodes that are chosen by their numbers.
-use Rattle.std.proofs.Common.{◌≡◌, ℕ, zero, suc, ◌+◌, ◌^◌, ◌≤◌, ◌<◌, Bool, true, false, not, ◌&&◌, ◌||◌, List, [], ◌∷◌, cond, refl, sym, ◌∙◌, ap, subst, arith, length, get_or, inl, inr, eqb}
+use Rattle.std.proofs.Common.{◌≡◌, ℕ, zero, suc, ◌+◌, ◌^◌, ◌≤◌, ◌<◌, Bool, true, false, not, ◌&&◌, ◌||◌, List, [], ◌∷◌, refl, sym, ◌∙◌, ap, subst, arith, length, get_or, inl, inr, eqb}
 use Rattle.std.specs.Prelude.{bit_and, ◌⊎◌, min}
 use Rattle.std.specs.Int.{bit_at, bit_not, w64}
 use Rattle.std.proofs.lemmas.Nat.Bits.{bit_at_and, bit_at_not, bit_at-lt}
@@ -14,16 +14,15 @@ use Rattle.graph_model.specs.Names.{same_name}
 use Rattle.graph_model.specs.declared.events.Event.{Event}
 use Rattle.graph_model.specs.Entity.{entity_of}
 use Rattle.graph_model.specs.Keep.{keep, is_named, in_layers, outside_layers}
-use Rattle.graph_model.specs.World.{World, events_of, remake}
+use Rattle.graph_model.specs.World.{World, remake}
 use Rattle.world_laws.proofs.Filters.{filter_same, each_weaker}
 use Rattle.world_laws.proofs.Order.{same_name-exact, same_name-refl}
 use Rattle.graph_store.specs.Parts.{parts_at}
 use Rattle.graph_store.specs.Contents.{Contents, name_at}
 use Rattle.graph_store.specs.Indexed.{IsIndexed}
-use Rattle.view_trait.specs.Meaning.{IsShown, HasLayers, knows, node_at, edge_at}
-use Rattle.view_trait.specs.Numbered.{numbered, has_bit, is_listed, layers_numbered, nodes_numbered, layer_world, chooses, node_world, keeps_number}
+use Rattle.view_trait.specs.Meaning.{IsShown, knows, node_at, edge_at}
+use Rattle.view_trait.specs.Numbered.{numbered, has_bit, is_listed, layers_numbered, nodes_numbered, layer_world, chooses, keeps_number}
 use Rattle.view_trait.proofs.Pairs.{edge_number}
-use Rattle.view_trait.proofs.Shown.{events_of-keep, IsShown-keep, HasLayers-keep}
 
 -- a name is among those that differ from it under no number
 none_chosen : (p : ℕ → Bool) (i : ℕ) (a : List ℕ) (xs : List (List ℕ)) → AllByRecursion (λ x. same_name a x ≡ false) xs → list_any (same_name a) (numbered p i xs) ≡ false
@@ -88,14 +87,6 @@ ends_keep c false numbers e h k =
     ap (λ t. not t && not (is_named (nodes_numbered c numbers) (name_at c.nodes (parts_at c.edges e).dst))) (node_chosen c numbers (parts_at c.edges e).src h (h.within e k).0)
     ∙ ap (λ t. not (is_listed numbers (parts_at c.edges e).src) && not t) (node_chosen c numbers (parts_at c.edges e).dst h (h.within e k).1)
 
--- ---- the worlds of the views
-
-pub IsShown-layer_world : (c : Contents) (bits : ℕ) (w : World) → IsShown c w → IsShown c (layer_world c bits w)
-IsShown-layer_world c bits w h = IsShown-keep (in_layers (layers_numbered c bits)) c w h
-
-pub IsShown-node_world : (c : Contents) (keeps : Bool) (numbers : List ℕ) (w : World) → IsShown c w → IsShown c (node_world c keeps numbers w)
-IsShown-node_world c keeps numbers w h = IsShown-keep (chooses keeps (nodes_numbered c numbers)) c w h
-
 -- a bit that two numbers do not both have
 pub both_bits : (a b l : ℕ) → bit_at (bit_and a b) l ≡ 0 → (bit_at a l ≡ 0) ⊎ (has_bit b l ≡ false)
 both_bits a b l h =
@@ -104,16 +95,6 @@ both_bits a b l h =
       | inl t ↦ inl (eqb-true (bit_at a l) 0 t)
       | inr t ↦ inr (let m = eqb-false (bit_at a l) 0 t in ne_eqb (bit_at b l) 1 (λ o. m (let k = bit_at-lt a l in omega (arith, e, o))))
     ]
-
-pub HasLayers-layer_world : (c : Contents) (w : World) (a b : ℕ) → IsIndexed c → HasLayers c w a → HasLayers c (layer_world c b w) (bit_and a b)
-HasLayers-layer_world c w a b h k = record {
-  none = λ e m n.
-      let p = in_layers (layers_numbered c b) in
-      elim (both_bits a b (parts_at c.edges e).layer n) [
-        | inl z ↦ (HasLayers-keep p c w a k).none e m z
-        | inr z ↦ events_of-keep p w (edge_at c e) ∙ ap (λ t. cond t (events_of w (edge_at c e)) []) (layer_keeps c b e h m ∙ z)
-      ];
-}
 
 -- ---- leaving out layers is keeping the others
 

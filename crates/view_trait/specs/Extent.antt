@@ -1,8 +1,10 @@
 -- How many events a list has, and its first and last time.
-use Rattle.std.specs.Prelude.{ℤ, List, [], ◌∷◌, length, Option, Some, None}
+use Rattle.std.specs.Prelude.{ℕ, ℤ, ◌+◌, ◌*◌, List, [], ◌∷◌, length, Option, Some, None}
 use Rattle.std.specs.Int.{int_max, int_min}
 use Rattle.graph_model.specs.declared.events.Event.{Event}
+use Rattle.graph_model.specs.Searches.{Searches}
 use Rattle.graph_model.specs.Windows.{last_time}
+use Rattle.graph_store.specs.Contents.{Contents}
 use Rattle.view_trait.specs.declared.extent_of_view.WorldExtent.{WorldExtent}
 
 -- the time of the first event, and of the last
@@ -28,3 +30,7 @@ abbrev pub later_of : Option ℤ → Option ℤ → Option ℤ
 later_of None b = b
 later_of (Some a) None = Some a
 later_of (Some a) (Some b) = Some (int_max a b)
+
+-- the searches for the spans of all nodes and of all edges
+abbrev pub span_searches : Contents → Searches → ℕ
+span_searches c s = length c.nodes * s.nodes + length c.edges * s.edges

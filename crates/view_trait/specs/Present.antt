@@ -9,6 +9,7 @@ use Rattle.graph_model.specs.World.{World}
 use Rattle.graph_model.specs.Neighbours.{leads}
 use Rattle.graph_store.specs.declared.walks.NodeId.{NodeId}
 use Rattle.graph_store.specs.Ends.{ends_at}
+use Rattle.graph_store.specs.Linked.{edges_between}
 use Rattle.graph_store.specs.Contents.{Contents, name_at}
 
 -- whether a present edge leads from the source of a pair to its destination
@@ -47,6 +48,10 @@ into_left c w n both into = option_map_or (starts_left c w n both) into []
 -- what a walk along two chains of pairs has left
 abbrev pub numbers_left : Contents → World → ℕ → Bool → Option (List ℕ) → Option (List ℕ) → List ℕ
 numbers_left c w n both out into = out_left c w out ++ into_left c w n both into
+
+-- how many edges a pair has
+abbrev pub edge_count : Contents → ℕ → ℕ
+edge_count c p = length (edges_between c.edges (ends_at c.pairs p))
 
 -- numbers of pairs of a store
 abbrev pub ArePairs : Contents → Option (List ℕ) → Type 0

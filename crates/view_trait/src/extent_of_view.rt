@@ -1,10 +1,11 @@
 //! How many events a view shows, and its first and last time.
-ghost use Rattle.std.specs.Prelude.{◌≡◌, ℕ, ◌≤◌, ◌<◌, ◌+◌, ◌-◌, ◌^◌, List, [], length, if◌then◌else◌};
+ghost use Rattle.std.specs.Prelude.{◌≡◌, ℕ, ◌≤◌, ◌<◌, ◌+◌, ◌-◌, ◌*◌, ◌^◌, List, [], length, if◌then◌else◌};
 ghost use Rattle.graph_model.specs.World.{events_of};
+ghost use Rattle.graph_model.specs.Searches.{digits};
 ghost use Rattle.graph_model.specs.declared.events.Entity.{Entity};
 ghost use Rattle.time_history.specs.Spans.{IsSpan, spelled};
 ghost use Rattle.time_history.specs.Told.{Fits};
-ghost use Rattle.view_trait.specs.Extent.{extent_of, time_of_first, time_of_last, earlier_of, later_of};
+ghost use Rattle.view_trait.specs.Extent.{extent_of, time_of_first, time_of_last, earlier_of, later_of, span_searches};
 ghost use Rattle.view_trait.specs.Meaning.{node_at, edge_at};
 
 use crate::view::View;
@@ -74,7 +75,8 @@ impl WorldExtent {
 /// The time of the first event of a span, of which one that is carried is at `lo`.
 fn first_of<L: Ledger>(history: &History, span: Span, lo: i64, steps: &mut Steps<L>) -> Option<i64>
     requires { IsSpan history.now.updates span }
-    ensures { (x : Entity) (names : ℕ → List ℕ) → Fits x history.now.updates → result ≡ time_of_first (spelled x names history.now.updates span lo) }
+    ensures time { (x : Entity) (names : ℕ → List ℕ) → Fits x history.now.updates → result ≡ time_of_first (spelled x names history.now.updates span lo) }
+    ensures cost { steps.new ≤ steps.old + 1 }
 {
     if span.carried {
         Some(lo)
@@ -88,7 +90,8 @@ fn first_of<L: Ledger>(history: &History, span: Span, lo: i64, steps: &mut Steps
 /// The time of the last event of a span, of which one that is carried is at `lo`.
 fn last_of<L: Ledger>(history: &History, span: Span, lo: i64, steps: &mut Steps<L>) -> Option<i64>
     requires { IsSpan history.now.updates span }
-    ensures { (x : Entity) (names : ℕ → List ℕ) → Fits x history.now.updates → result ≡ time_of_last (spelled x names history.now.updates span lo) }
+    ensures time { (x : Entity) (names : ℕ → List ℕ) → Fits x history.now.updates → result ≡ time_of_last (spelled x names history.now.updates span lo) }
+    ensures cost { steps.new ≤ steps.old + 1 }
 {
     if span.from < span.to {
         Some(history.time_at(span.to - 1, steps))
@@ -117,6 +120,7 @@ fn span_extent<L: Ledger>(
     requires { IsSpan history.now.updates span }
     ensures extent { (x : Entity) (names : ℕ → List ℕ) → Fits x history.now.updates → result ≡ extent_of (spelled x names history.now.updates span lo) }
     ensures few { result.events ≤ length history.now.updates }
+    ensures cost { steps.new ≤ steps.old + 2 }
 {
     WorldExtent {
         events: count_of(span),
@@ -130,8 +134,10 @@ fn node_extent<V: View, L: Ledger>(view: &V, n: NodeId, steps: &mut Steps<L>) ->
     requires { n.0 < length (V.contents view.now).nodes }
     ensures extent { result ≡ extent_of (events_of (V.world view.now) (node_at (V.contents view.now) n.0)) }
     ensures few { result.events ≤ 4194304 }
+    ensures cost { let among = length (V.contents view.now).accepted in steps.new ≤ steps.old + (V.searches view.now).nodes * (digits among + 1) + 2 }
 {
     let store = view.store();
+    // A call for its fact: a store has no more than 4,194,304 events.
     let _few = store.events();
     let span = view.node_span(n, steps);
     span_extent(store.node_history(n), span, view.bounds().lo(), steps)
@@ -142,17 +148,20 @@ fn edge_extent<V: View, L: Ledger>(view: &V, e: EdgeId, steps: &mut Steps<L>) ->
     requires { e.0 < length (V.contents view.now).edges }
     ensures extent { result ≡ extent_of (events_of (V.world view.now) (edge_at (V.contents view.now) e.0)) }
     ensures few { result.events ≤ 4194304 }
+    ensures cost { let among = length (V.contents view.now).accepted in steps.new ≤ steps.old + (V.searches view.now).edges * (digits among + 1) + 2 }
 {
     let store = view.store();
+    // A call for its fact: a store has no more than 4,194,304 events.
     let _few = store.events();
     let span = view.edge_span(e, steps);
     span_extent(store.edge_history(e), span, view.bounds().lo(), steps)
 }
 
 /// How many events the world of a view has, and the first and last time of one. It asks for each
-/// span once, and takes no memory.
+/// span once, reads at most two times in each, and takes no memory.
 pub fn extent<V: View, L: Ledger>(view: &V, steps: &mut Steps<L>) -> WorldExtent
-    ensures { result ≡ extent_of (V.world view.now).events }
+    ensures extent { result ≡ extent_of (V.world view.now).events }
+    ensures cost { let c = V.contents view.now in steps.new ≤ steps.old + span_searches c (V.searches view.now) * (digits (length c.accepted) + 1) + 2 * (length c.nodes + length c.edges) }
 {
     let store = view.store();
     let mut all = WorldExtent::new();

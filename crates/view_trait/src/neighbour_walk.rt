@@ -68,7 +68,8 @@ pub fn neighbours<V: View>(view: &V, n: NodeId, direction: Direction) -> Neighbo
 }
 
 impl<V: View> NeighbourWalk<'_, V> {
-    /// The next neighbour, or nothing once all were given.
+    /// The next neighbour, or nothing once all were given. No clause bounds its steps: it asks the
+    /// pairs that are left until one is present.
     pub fn next<L: Ledger>(&mut self, steps: &mut Steps<L>) -> Option<NodeId>
         ensures { IsNext self.old self.new result }
     {

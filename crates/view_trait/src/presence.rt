@@ -1,5 +1,5 @@
 //! What a view shows as present.
-ghost use Rattle.std.specs.Prelude.{◌≡◌, ◌<◌, ◌||◌, length, None, is_some};
+ghost use Rattle.std.specs.Prelude.{◌≡◌, ◌<◌, ◌||◌, ◌*◌, length, None, is_some};
 ghost use Rattle.std.specs.List.{AllByRecursion, last_or};
 ghost use Rattle.graph_model.specs.declared.events.Model.TheVariants.{Event as Instants};
 ghost use Rattle.graph_model.specs.Presence.{edge_present as is_edge_present, node_present as is_node_present};
@@ -7,7 +7,7 @@ ghost use Rattle.graph_model.specs.World.{events_of};
 ghost use Rattle.graph_store.specs.Paired.{pairs_from, pairs_to};
 ghost use Rattle.graph_store.specs.Contents.{name_at};
 ghost use Rattle.view_trait.specs.Meaning.{IsWithin, node_at, edge_named};
-ghost use Rattle.view_trait.specs.Present.{pair_leads, any_pair_leads};
+ghost use Rattle.view_trait.specs.Present.{pair_leads, any_pair_leads, edge_count};
 
 use crate::view::View;
 use graph_store::{EdgeId, NodeId, PairId, PairWalk};
@@ -27,10 +27,12 @@ pub fn edge_present<V: View, L: Ledger>(view: &V, e: EdgeId, steps: &mut Steps<L
         .present(span, view.bounds(), store.model(), steps)
 }
 
-/// Whether a pair is present: a present edge leads from its source to its destination.
+/// Whether a pair is present: a present edge leads from its source to its destination. In the event
+/// model each edge of the pair is searched once at the most; in the other no clause bounds the steps.
 pub fn pair_present<V: View, L: Ledger>(view: &V, p: PairId, steps: &mut Steps<L>) -> bool
     requires { p.0 < length (V.contents view.now).pairs }
-    ensures { result ≡ pair_leads (V.contents view.now) (V.world view.now) p.0 }
+    ensures present { result ≡ pair_leads (V.contents view.now) (V.world view.now) p.0 }
+    ensures cost { let c = V.contents view.now in (V.world view.now).model ≡ Instants → IsWithin steps.old steps.new (edge_count c p.0 * (V.searches view.now).edges) (length c.accepted) }
 {
     let mut edges = view.store().edges_of(p);
     while let Some(e) = edges.next() {
@@ -75,7 +77,8 @@ fn has_event<V: View, L: Ledger>(view: &V, n: NodeId, steps: &mut Steps<L>) -> b
     store.node_history(n).last_kind(span).is_some()
 }
 
-/// Whether a node is present: it has an event of its own, or is an end of a present edge.
+/// Whether a node is present: it has an event of its own, or is an end of a present edge. No clause
+/// bounds its steps: without an event of its own it asks its pairs until one is present.
 pub fn node_present<V: View, L: Ledger>(view: &V, n: NodeId, steps: &mut Steps<L>) -> bool
     requires { n.0 < length (V.contents view.now).nodes }
     ensures { result ≡ is_node_present (V.world view.now) (name_at (V.contents view.now).nodes n.0) }

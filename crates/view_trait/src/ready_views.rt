@@ -11,6 +11,7 @@ ghost use Rattle.view_trait.specs.Drawn.{IsDrawn, Selects};
 ghost use Rattle.view_trait.specs.Numbered.{has_bit, is_listed};
 ghost use Rattle.view_trait.specs.Ready.{ready_view, ready_apply, ready_kind, in_range};
 
+use crate::facts::store_facts;
 use crate::numbers::NodeList;
 use crate::ready_ops::{ReadyOp, ReadyOps};
 use graph_model::{Bounds, Memory, NameList, Op, OpList};
@@ -21,8 +22,7 @@ use std::alloc::Global;
 fn layer_bits(store: &Store, names: &NameList) -> u64
     ensures { Selects store.now.layers names.now (has_bit result) }
 {
-    let _few = store.layers();
-    let _indexed = store.nodes();
+    store_facts(store);
     let mut bits: u64 = 0;
     for i in 0..names.len() {
         if let Some(layer) = store.layer_of(names.item(i)) {
@@ -36,7 +36,7 @@ fn layer_bits(store: &Store, names: &NameList) -> u64
 fn nodes_of(alloc: Global, store: &Store, names: &NameList) -> Result<NodeList, Memory>
     ensures { IfOk result (λ nodes. Selects store.now.nodes names.now (is_listed nodes)) }
 {
-    let _indexed = store.nodes();
+    store_facts(store);
     let mut nodes = NodeList::new(alloc);
     for i in 0..names.len() {
         if let Some(node) = store.node_of(names.item(i)) {
@@ -50,7 +50,7 @@ fn nodes_of(alloc: Global, store: &Store, names: &NameList) -> Result<NodeList, 
 fn types_of(alloc: Global, store: &Store, names: &NameList) -> Result<Vec<u32>, Memory>
     ensures { IfOk result (λ kinds. Selects store.now.kinds names.now (is_listed kinds.items)) }
 {
-    let _indexed = store.nodes();
+    store_facts(store);
     let mut kinds = Vec::new(alloc);
     for i in 0..names.len() {
         if let Some(kind) = store.type_id(names.item(i)) {
@@ -122,9 +122,7 @@ pub fn ready(alloc: Global, store: &Store, views: &OpList) -> Result<ReadyOps, M
     ensures in_range { IfOk result (λ ops. list_all in_range ops ≡ true) }
     ensures kinds { IfOk result (λ ops. map ready_kind ops ≡ map kind_of views.now) }
 {
-    let _lawful = store.events();
-    let _indexed = store.nodes();
-    let _few = store.layers();
+    store_facts(store);
     let mut ops = ReadyOps::new(alloc);
     for i in 0..views.len() {
         ops.push(ready_op(alloc, store, views.item(i))?)?;

@@ -11,6 +11,6 @@ returns-clause-extent g c x names fit =
     let us = c.args.history.now.updates in
     let lo = to_z-of_z w64 c.args.lo c.ranges.lo in
     let events = c.count_of.ensures ∙ sym (length_spelled x names us c.args.span c.requires fit c.args.lo) in
-    let first = c.first_of.ensures x names fit ∙ ap (λ t. time_of_first (spelled x names us c.args.span t)) lo in
-    let last = c.last_of.ensures x names fit ∙ ap (λ t. time_of_last (spelled x names us c.args.span t)) lo in
+    let first = c.first_of.ensures.time x names fit ∙ ap (λ t. time_of_first (spelled x names us c.args.span t)) lo in
+    let last = c.last_of.ensures.time x names fit ∙ ap (λ t. time_of_last (spelled x names us c.args.span t)) lo in
     λ k. record { events = events k; first = first k; last = last k }

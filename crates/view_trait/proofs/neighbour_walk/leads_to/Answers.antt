@@ -11,7 +11,7 @@ returns-in-Some g c =
     let world = g.V.View.world c.args.view.now in
     let place : position (same_ends (record { src = c.args.src.0; dst = c.args.dst.0 })) contents.pairs ≡ Some c.in-Some.p.0 =
     ap (λ (s : Contents). position (same_ends (record { src = c.args.src.0; dst = c.args.dst.0 })) s.pairs) (sym c.store.ensures) ∙ sym c.in-Some.ensures.place in
-    c.pair_present.ensures ∙ found_leads contents world c.args.src.0 c.args.dst.0 c.in-Some.p.0 place
+    c.pair_present.ensures.present ∙ found_leads contents world c.args.src.0 c.args.dst.0 c.in-Some.p.0 place
 
 pub returns-in-None : goal.returns-in-None
 returns-in-None g c =

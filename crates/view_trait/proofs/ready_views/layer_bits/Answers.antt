@@ -21,10 +21,9 @@ loop-i-preserved c =
           let p = w.in-Some.layer in
           let place = sym w.in-Some.ensures.place in
           let r = position-Some (same_name c.item.result.now) layers p [] place in
-          let few = c.layers-few.ensures.few in
-          let count = c.layers-few.ensures.len in
-          let within : p < 64 = (let a = r.0 in omega (arith, a, few, count)) in
-          selects_more layers names i c.item.result.now p (has_bit c.loop-i.bits) (has_bit c.match-layer_of.bits) c.nodes-indexed.ensures.indexed.layer_names lt c.item.ensures place c.loop-i.invariant
+          let few = c.store_facts.ensures.few_layers in
+          let within : p < 64 = (let a = r.0 in omega (arith, a, few)) in
+          selects_more layers names i c.item.result.now p (has_bit c.loop-i.bits) (has_bit c.match-layer_of.bits) c.store_facts.ensures.indexed.layer_names lt c.item.ensures place c.loop-i.invariant
           (λ n m. ap (λ b. has_bit b n) w.bits-is ∙ bit_set c.loop-i.bits p n within)
       | in_default w ↦ subst (λ b. Selects layers (take (i + 1) names) (has_bit b)) (sym w.bits-is) (selects_same layers names i c.item.result.now (has_bit c.loop-i.bits) lt c.item.ensures (sym w.in_default.ensures.place) c.loop-i.invariant)
     ]

@@ -18,7 +18,7 @@ loop-i-preserved c =
     elim c.match-node_of.branch [
       | in-Some+in_ok-push w ↦
           let p = w.in-Some.node.0 in
-          selects_more nodes names i c.item.result.now p (is_listed c.loop-i.nodes) (is_listed c.match-node_of.nodes) c.nodes-indexed.ensures.indexed.node_names lt c.item.ensures (sym w.in-Some.ensures.place) c.loop-i.invariant
+          selects_more nodes names i c.item.result.now p (is_listed c.loop-i.nodes) (is_listed c.match-node_of.nodes) c.store_facts.ensures.indexed.node_names lt c.item.ensures (sym w.in-Some.ensures.place) c.loop-i.invariant
           (λ n m. ap (λ xs. is_listed xs n) (w.nodes-is ∙ w.in_ok-push.ensures.ok) ∙ listed_put p c.loop-i.nodes n)
       | in_default w ↦ subst (λ xs. Selects nodes (take (i + 1) names) (is_listed xs)) (sym w.nodes-is) (selects_same nodes names i c.item.result.now (is_listed c.loop-i.nodes) lt c.item.ensures (sym w.in_default.ensures.place) c.loop-i.invariant)
     ]

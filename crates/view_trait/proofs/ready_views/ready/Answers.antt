@@ -54,9 +54,7 @@ pub returns-clause-base : goal.returns-clause-base
 returns-clause-base c =
     let store = c.args.store.now in
     let views = c.args.views.now in
-    let few = c.layers-few.ensures.few in
-    let count = c.layers-few.ensures.len in
-    let drawn = IsDrawn-base store c.events-lawful.ensures.lawful c.nodes-indexed.ensures.indexed (omega (arith, few, count)) in
+    let drawn = IsDrawn-base store c.store_facts.ensures in
     let past = c.loop-i-test.false in
     let end = c.len-i-end.ensures in
     let all : c.loop-i.i ≡ length views = omega (arith, past, end) in

@@ -17,7 +17,7 @@ loop-i-preserved c =
     elim c.match-type_id.branch [
       | in-Some+in_ok-push w ↦
           let p = w.in-Some.kind in
-          selects_more kinds names i c.item.result.now p (is_listed c.loop-i.kinds.items) (is_listed c.match-type_id.kinds.items) c.nodes-indexed.ensures.indexed.kind_names lt c.item.ensures (sym w.in-Some.ensures.place) c.loop-i.invariant
+          selects_more kinds names i c.item.result.now p (is_listed c.loop-i.kinds.items) (is_listed c.match-type_id.kinds.items) c.store_facts.ensures.indexed.kind_names lt c.item.ensures (sym w.in-Some.ensures.place) c.loop-i.invariant
           (λ n m. ap (λ xs. is_listed xs n) (ap (λ v. v.items) w.kinds-is ∙ w.in_ok-push.ensures.items) ∙ listed_push c.loop-i.kinds.items p n)
       | in_default w ↦ subst (λ v. Selects kinds (take (i + 1) names) (is_listed v.items)) (sym w.kinds-is) (selects_same kinds names i c.item.result.now (is_listed c.loop-i.kinds.items) lt c.item.ensures (sym w.in_default.ensures.place) c.loop-i.invariant)
     ]
