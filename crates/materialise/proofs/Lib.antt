@@ -7,4 +7,3 @@ pub mod NamedTypes
 pub mod LiveProps
 pub mod BorrowedProps
 pub mod PlacedEvents
-pub mod Unrefused

@@ -31,7 +31,8 @@ use Rattle.view_trait.proofs.NodePairs.{any_map}
 use Rattle.view_trait.proofs.Entities.{all_entities, entities_once}
 use Rattle.materialise.specs.declared.listing.Shown.{Shown}
 use Rattle.materialise.specs.Listing.{entity_named, IsPart, entities_of, appears, AreShown}
-use Rattle.materialise.proofs.Sorting.{rises_sorted, rises_keys, distinct_keys, distinct_kept, distinct_rising, nonempty, any_is}
+use Rattle.world_laws.proofs.DistinctRising.{distinct_rising}
+use Rattle.materialise.proofs.Sorting.{rises_sorted, rises_keys, distinct_keys, distinct_kept, nonempty, any_is}
 
 abbrev pub entity_shown : Shown → Entity
 entity_shown s = entity_named s.subject

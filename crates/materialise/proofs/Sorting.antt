@@ -149,15 +149,6 @@ distinct_kept same p (x ∷ xs) h =
     (λ e. IsDistinct-cons same x (filter p xs) (each_kept (λ y. same x y ≡ false) p xs (IsDistinct-head same x xs h)) more)
     (λ e. more)
 
--- what rises differs
-pub distinct_rising : {X : Type 0} (cmp : X → X → Ordering) (xs : List X) → Rises cmp xs → IsDistinct (λ x y. is_eq (cmp x y)) xs
-distinct_rising cmp [] h = IsDistinct-from_apart (λ x y. is_eq (cmp x y)) [] (λ i j d less below. absurd (omega arith))
-distinct_rising {X} cmp (x ∷ xs) h = IsDistinct-cons (λ x y. is_eq (cmp x y)) x xs (each xs h.0) (distinct_rising cmp xs h.1)
-  where
-    each : (ys : List X) → AllByRecursion (λ y. cmp x y ≡ Less) ys → AllByRecursion (λ y. is_eq (cmp x y) ≡ false) ys
-    each [] k = tt
-    each (y ∷ ys) k = (ap is_eq k.0, each ys k.1)
-
 -- ---- whether something is there
 
 abbrev pub nonempty : {X : Type 0} → List X → Bool

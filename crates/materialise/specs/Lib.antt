@@ -2,5 +2,4 @@ pub mod Moments
 pub mod Listing
 pub mod Types
 pub mod Keyed
-pub mod Storable
 pub mod Borrowed

@@ -20,12 +20,15 @@ use Rattle.materialise.specs.declared.listing.EventPlace.{EventPlace}
 -- the node or edge of these names
 abbrev pub entity_named : Subject → Entity
 entity_named (OfNode n name) = Node name.now
-entity_named (OfEdge e src dst layer) = Edge (record { src = src.now; dst = dst.now; layer = layer.now })
+entity_named (OfEdge e src dst layer) =
+    Edge (record { src = src.now; dst = dst.now; layer = layer.now })
 
 -- a number of a store, and the names that the store has for it
 abbrev pub IsNumbered : Contents → Subject → Type 0
 IsNumbered c (OfNode n name) = (n.0 < length c.nodes) × (name_at c.nodes n.0 ≡ name.now)
-IsNumbered c (OfEdge e src dst layer) = (e.0 < length c.edges) × (edge_named c e.0 ≡ record { src = src.now; dst = dst.now; layer = layer.now })
+IsNumbered c (OfEdge e src dst layer) =
+    (e.0 < length c.edges)
+    × (edge_named c e.0 ≡ record { src = src.now; dst = dst.now; layer = layer.now })
 
 -- a node or an edge of a store, with the span that a world shows of it
 pub record IsPart (c : Contents) (w : World) (s : Shown) : Type 0 where
@@ -73,12 +76,15 @@ pub record AreListed (c : Contents) (w : World) (xs : List Shown) (places : List
 
 -- the order of places: by time, then by the node or edge, and then by the place among its events
 abbrev pub place_cmp : EventPlace → EventPlace → Ordering
-place_cmp p q = ordering_then (int_cmp p.time q.time) (ordering_then (nat_cmp p.shown q.shown) (nat_cmp p.place q.place))
+place_cmp p q =
+    ordering_then (int_cmp p.time q.time)
+    (ordering_then (nat_cmp p.shown q.shown) (nat_cmp p.place q.place))
 
 -- the places of events of one entity, from one place on
 abbrev pub placed_from : ℕ → ℕ → List Event → List EventPlace
 placed_from shown place [] = []
-placed_from shown place (x ∷ xs) = record { time = x.time; shown = shown; place = place } ∷ placed_from shown (place + 1) xs
+placed_from shown place (x ∷ xs) =
+    record { time = x.time; shown = shown; place = place } ∷ placed_from shown (place + 1) xs
 
 -- the places of the events of entities, one entity after another
 abbrev pub all_placed : World → ℕ → List Entity → List EventPlace

@@ -17,8 +17,12 @@ moment_told u = record { time = u.time; kind = u.kind }
 
 -- what is carried to lo, if something is: it has the kind of the last update before the span
 abbrev pub carried_moments : List Update → Span → ℤ → List Moment
-carried_moments us span lo = if span.carried then (record { time = lo; kind = (update_at us (span.from - 1)).kind } ∷ []) else []
+carried_moments us span lo =
+    if span.carried
+    then (record { time = lo; kind = (update_at us (span.from - 1)).kind } ∷ [])
+    else []
 
 -- what is carried, and then the updates of the span
 abbrev pub moments_told : List Update → Span → ℤ → List Moment
-moments_told us span lo = carried_moments us span lo ++ map moment_told (slice_range us span.from span.to)
+moments_told us span lo =
+    carried_moments us span lo ++ map moment_told (slice_range us span.from span.to)

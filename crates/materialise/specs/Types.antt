@@ -11,7 +11,8 @@ use Rattle.materialise.specs.declared.types.TypedNode.{TypedNode}
 -- a flag for each node of a store: whether some entities name it
 pub record AreMarked (c : Contents) (es : List Entity) (flags : List Bool) : Type 0 where
   pub len : length flags ≡ length c.nodes
-  pub marked : (n : ℕ) → n < length c.nodes → slice_index_or flags n false ≡ list_any (involves (name_at c.nodes n)) es
+  pub marked : (n : ℕ) → n < length c.nodes → slice_index_or flags n false
+      ≡ list_any (involves (name_at c.nodes n)) es
 
 -- nodes with their types
 abbrev pub types_listed : List TypedNode → List (List ℕ × List ℕ)

@@ -46,7 +46,8 @@ pub struct BorrowedEvent<'s> {
 fn history_of<'s>(store: &'s Store, subject: Subject<'_>) -> &'s History
     requires { IsNumbered store.now subject }
     ensures tells { Tells store.now (entity_named subject.entry) result.now.updates }
-    ensures keys { AreNamed (key_names_for store.now (entity_named subject.entry)) (key_count store.now (entity_named subject.entry)) result.now.updates }
+    ensures keys { AreNamed (key_names_for store.now (entity_named subject.entry))
+        (key_count store.now (entity_named subject.entry)) result.now.updates }
 {
     match subject {
         Subject::Node(node, _) => store.node_history(node),
@@ -85,7 +86,8 @@ fn put_value<'s>(
     key: &'s Name,
     value: &'s Value,
 ) -> Result<(), Memory>
-    ensures { OnOk result (props_borrowed props.new.items ≡ put_prop (key.now, value.now) (props_borrowed props.old.items)) }
+    ensures { OnOk result (props_borrowed props.new.items
+        ≡ put_prop (key.now, value.now) (props_borrowed props.old.items)) }
 {
     let place = place_of(props.as_slice(), key);
     props.insert(place, Property { key, value })?;
@@ -100,7 +102,8 @@ fn set_values<'s>(
     values: &'s KeyValues,
 ) -> Result<(), Memory>
     requires { All (λ p. p.0 < key_count store.now (entity_named subject)) values.now }
-    ensures { OnOk result (props_borrowed props.new.items ≡ named (key_names_for store.now (entity_named subject.entry)) values.now) }
+    ensures { OnOk result (props_borrowed props.new.items
+        ≡ named (key_names_for store.now (entity_named subject.entry)) values.now) }
 {
     props.clear();
     let mut i = values.len();
@@ -122,8 +125,13 @@ fn update_event<'s, L: Ledger>(
     steps: &mut Steps<L>,
 ) -> Result<BorrowedEvent<'s>, Memory>
     requires place { i < length history.now.updates }
-    requires keys { AreNamed (key_names_for store.now (entity_named subject)) (key_count store.now (entity_named subject)) history.now.updates }
-    ensures event { IfOk result (λ event. event_borrowed event (props_borrowed props.new.items) ≡ event_told (entity_named subject.entry) (key_names_for store.now (entity_named subject.entry)) (update_at history.now.updates i)) }
+    requires keys { AreNamed (key_names_for store.now (entity_named subject))
+        (key_count store.now (entity_named subject)) history.now.updates }
+    ensures event { IfOk result (λ event.
+        event_borrowed event (props_borrowed props.new.items)
+        ≡ event_told (entity_named subject.entry)
+        (key_names_for store.now (entity_named subject.entry))
+        (update_at history.now.updates i)) }
     ensures rise { OnOk result (KeysRise (props_borrowed props.new.items)) }
 {
     let _rise = history.len();
@@ -162,7 +170,8 @@ fn put_missing<'s>(
     key: &'s Name,
     value: &'s Value,
 ) -> Result<(), Memory>
-    ensures { OnOk result (props_borrowed props.new.items ≡ overwrite ((key.now, value.now) ∷ []) (props_borrowed props.old.items)) }
+    ensures { OnOk result (props_borrowed props.new.items
+        ≡ overwrite ((key.now, value.now) ∷ []) (props_borrowed props.old.items)) }
 {
     if has_value(props.as_slice(), key) {
         return Ok(());
@@ -179,9 +188,13 @@ fn put_earlier<'s>(
     i: u32,
 ) -> Result<(), Memory>
     requires place { i < length history.now.updates }
-    requires keys { AreNamed (key_names_for store.now (entity_named subject)) (key_count store.now (entity_named subject)) history.now.updates }
+    requires keys { AreNamed (key_names_for store.now (entity_named subject))
+        (key_count store.now (entity_named subject)) history.now.updates }
     requires rise { KeysRise (props_borrowed props.old.items) }
-    ensures { OnOk result (props_borrowed props.new.items ≡ overwrite (named (key_names_for store.now (entity_named subject.entry)) (update_at history.now.updates i).props) (props_borrowed props.old.items)) }
+    ensures { OnOk result (props_borrowed props.new.items
+        ≡ overwrite (named (key_names_for store.now (entity_named subject.entry))
+        (update_at history.now.updates i).props)
+        (props_borrowed props.old.items)) }
 {
     let values = history.values_at(i);
     let mut j = values.len();
@@ -193,8 +206,9 @@ fn put_earlier<'s>(
     Ok(())
 }
 
-/// Makes `props` the last values that a node or an edge has before a place of its history, after its
-/// last deletion. The updates are read once, from the last one back, until every key has a value.
+/// Makes `props` the last values that a node or an edge has before a place of its history, after
+/// its last deletion. The updates are read once, from the last one back, until every key has a
+/// value.
 fn set_live<'s>(
     props: &mut Vec<Property<'s>>,
     store: &'s Store,
@@ -204,8 +218,12 @@ fn set_live<'s>(
 ) -> Result<(), Memory>
     requires end { to ≤ length history.now.updates }
     requires tells { Tells store.now (entity_named subject) history.now.updates }
-    requires keys { AreNamed (key_names_for store.now (entity_named subject)) (key_count store.now (entity_named subject)) history.now.updates }
-    ensures values { OnOk result (props_borrowed props.new.items ≡ last_props (live (take to (events_told (entity_named subject.entry) (key_names_for store.now (entity_named subject.entry)) history.now.updates)))) }
+    requires keys { AreNamed (key_names_for store.now (entity_named subject))
+        (key_count store.now (entity_named subject)) history.now.updates }
+    ensures values { OnOk result (props_borrowed props.new.items
+        ≡ last_props (live (take to (events_told (entity_named subject.entry)
+        (key_names_for store.now (entity_named subject.entry))
+        history.now.updates)))) }
     ensures rise { OnOk result (KeysRise (props_borrowed props.new.items)) }
 {
     let _lawful = store.events();
@@ -234,8 +252,18 @@ fn carried_event<'s>(
 ) -> Result<BorrowedEvent<'s>, Memory>
     requires end { to ≤ length history.now.updates }
     requires tells { Tells store.now (entity_named subject) history.now.updates }
-    requires keys { AreNamed (key_names_for store.now (entity_named subject)) (key_count store.now (entity_named subject)) history.now.updates }
-    ensures event { IfOk result (λ event. event_borrowed event (props_borrowed props.new.items) ≡ record { time = lo; order = 0; what = update_of (entity_named subject.entry) (last_props (live (take to (events_told (entity_named subject.entry) (key_names_for store.now (entity_named subject.entry)) history.now.updates)))) }) }
+    requires keys { AreNamed (key_names_for store.now (entity_named subject))
+        (key_count store.now (entity_named subject)) history.now.updates }
+    ensures event { IfOk result (λ event.
+        event_borrowed event (props_borrowed props.new.items)
+        ≡ record {
+          time = lo;
+          order = 0;
+          what = update_of (entity_named subject.entry)
+              (last_props (live (take to (events_told (entity_named subject.entry)
+              (key_names_for store.now (entity_named subject.entry))
+              history.now.updates))));
+        }) }
     ensures rise { OnOk result (KeysRise (props_borrowed props.new.items)) }
 {
     set_live(props, store, subject, history, to)?;
@@ -279,7 +307,9 @@ fn shown_event<'s, V: View, L: Ledger>(
 ) -> Result<BorrowedEvent<'s>, Memory>
     requires part { IsPart (V.contents view.now) (V.world view.now) one }
     requires place { place < length (events_of (V.world view.now) (entity_named one.subject)) }
-    ensures event { IfOk result (λ event. event_borrowed event (props_borrowed props.new.items) ≡ event_at (events_of (V.world view.now) (entity_named one.entry.subject)) place) }
+    ensures event { IfOk result (λ event.
+        event_borrowed event (props_borrowed props.new.items)
+        ≡ event_at (events_of (V.world view.now) (entity_named one.entry.subject)) place) }
     ensures rise { OnOk result (KeysRise (props_borrowed props.new.items)) }
 {
     let store = view.store();
@@ -304,7 +334,9 @@ pub fn borrowed_event<'s, V: View, L: Ledger>(
 ) -> Result<BorrowedEvent<'s>, Memory>
     requires parts { All (IsPart (V.contents view.now) (V.world view.now)) shown.now }
     requires placed { IsPlaced (V.world view.now) shown.now place }
-    ensures event { IfOk result (λ event. event_borrowed event (props_borrowed props.new.items) ≡ event_placed (V.world view.now) shown.now place) }
+    ensures event { IfOk result (λ event.
+        event_borrowed event (props_borrowed props.new.items)
+        ≡ event_placed (V.world view.now) shown.now place) }
     ensures rise { OnOk result (KeysRise (props_borrowed props.new.items)) }
 {
     let one = shown[place.shown as usize];

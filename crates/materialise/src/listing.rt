@@ -102,8 +102,13 @@ fn push_node<'s, V: View, L: Ledger>(
     steps: &mut Steps<L>,
 ) -> Result<(), Memory>
     requires { node.0 < length (V.contents view.now).nodes }
-    ensures entities { OnOk result (entities_of shown.new.items ≡ entities_of shown.old.items ++ filter (appears (V.world view.now)) (node_at (V.contents view.now) node.0 ∷ [])) }
-    ensures parts { OnOk result (All (IsPart (V.contents view.now) (V.world view.now)) shown.old.items → All (IsPart (V.contents view.now) (V.world view.now)) shown.new.items) }
+    ensures entities { OnOk result (entities_of shown.new.items
+        ≡ entities_of shown.old.items
+        ++ filter (appears (V.world view.now))
+        (node_at (V.contents view.now) node.0 ∷ [])) }
+    ensures parts { OnOk result
+        (All (IsPart (V.contents view.now) (V.world view.now)) shown.old.items
+        → All (IsPart (V.contents view.now) (V.world view.now)) shown.new.items) }
 {
     let span = view.node_span(node, steps);
     if view.store().node_history(node).last_kind(span).is_none() {
@@ -123,8 +128,13 @@ fn push_edge<'s, V: View, L: Ledger>(
     steps: &mut Steps<L>,
 ) -> Result<(), Memory>
     requires { edge.0 < length (V.contents view.now).edges }
-    ensures entities { OnOk result (entities_of shown.new.items ≡ entities_of shown.old.items ++ filter (appears (V.world view.now)) (edge_at (V.contents view.now) edge.0 ∷ [])) }
-    ensures parts { OnOk result (All (IsPart (V.contents view.now) (V.world view.now)) shown.old.items → All (IsPart (V.contents view.now) (V.world view.now)) shown.new.items) }
+    ensures entities { OnOk result (entities_of shown.new.items
+        ≡ entities_of shown.old.items
+        ++ filter (appears (V.world view.now))
+        (edge_at (V.contents view.now) edge.0 ∷ [])) }
+    ensures parts { OnOk result
+        (All (IsPart (V.contents view.now) (V.world view.now)) shown.old.items
+        → All (IsPart (V.contents view.now) (V.world view.now)) shown.new.items) }
 {
     let span = view.edge_span(edge, steps);
     let store = view.store();
@@ -142,15 +152,18 @@ fn push_edge<'s, V: View, L: Ledger>(
     Ok(())
 }
 
-/// The nodes and edges that have events in a view, by their numbers, nodes first. Each span is asked
-/// once.
+/// The nodes and edges that have events in a view, by their numbers, nodes first. Each span is
+/// asked once.
 pub(crate) fn shown_by_number<'s, V: View, L: Ledger>(
     alloc: Global,
     view: &'s V,
     steps: &mut Steps<L>,
 ) -> Result<Vec<Shown<'s>>, Memory>
-    ensures entities { IfOk result (λ shown. entities_of shown.items ≡ filter (appears (V.world view.now)) (all_entities (V.contents view.now))) }
-    ensures parts { IfOk result (λ shown. All (IsPart (V.contents view.now) (V.world view.now)) shown.items) }
+    ensures entities { IfOk result (λ shown.
+        entities_of shown.items
+        ≡ filter (appears (V.world view.now)) (all_entities (V.contents view.now))) }
+    ensures parts { IfOk result (λ shown.
+        All (IsPart (V.contents view.now) (V.world view.now)) shown.items) }
 {
     let store = view.store();
     let mut shown = Vec::new(alloc);
@@ -170,7 +183,11 @@ fn push_carried(
     lo: i64,
     shown: u32,
 ) -> Result<u32, Memory>
-    ensures places { OnOk result (places.new.items ≡ places.old.items ++ (if span.carried then (record { time = lo; shown = shown; place = 0 } ∷ []) else [])) }
+    ensures places { OnOk result (places.new.items
+        ≡ places.old.items
+        ++ (if span.carried
+        then (record { time = lo; shown = shown; place = 0 } ∷ [])
+        else [])) }
     ensures count { IfOk result (λ count. count ≡ (if span.carried then 1 else 0)) }
 {
     if !span.carried {
@@ -193,7 +210,12 @@ fn place_at<L: Ledger>(
     steps: &mut Steps<L>,
 ) -> EventPlace
     requires { i < length history.now.updates }
-    ensures { result ≡ record { time = (update_at history.now.updates i).time; shown = shown; place = place } }
+    ensures { result
+        ≡ record {
+          time = (update_at history.now.updates i).time;
+          shown = shown;
+          place = place;
+        } }
 {
     let time = history.time_at(i, steps);
     EventPlace { time, shown, place }
@@ -209,7 +231,11 @@ fn push_span<L: Ledger>(
     steps: &mut Steps<L>,
 ) -> Result<(), Memory>
     requires { IsSpan history.now.updates span }
-    ensures { OnOk result ((x : Entity) (names : ℕ → List ℕ) → Fits x history.now.updates → places.new.items ≡ places.old.items ++ placed_from shown 0 (spelled x names history.now.updates span lo)) }
+    ensures { OnOk result ((x : Entity) (names : ℕ → List ℕ)
+        → Fits x history.now.updates
+        → places.new.items
+        ≡ places.old.items
+        ++ placed_from shown 0 (spelled x names history.now.updates span lo)) }
 {
     let count = push_carried(places, span, lo, shown)?;
     for i in span.from..span.to {
@@ -227,7 +253,10 @@ fn push_events<V: View, L: Ledger>(
     steps: &mut Steps<L>,
 ) -> Result<(), Memory>
     requires { IsPart (V.contents view.now) (V.world view.now) one }
-    ensures { OnOk result (places.new.items ≡ places.old.items ++ placed_from shown 0 (events_of (V.world view.now) (entity_named one.entry.subject))) }
+    ensures { OnOk result (places.new.items
+        ≡ places.old.items
+        ++ placed_from shown 0
+        (events_of (V.world view.now) (entity_named one.entry.subject))) }
 {
     let store = view.store();
     let lo = view.bounds().lo();
@@ -249,7 +278,8 @@ fn places_by_entity<V: View, L: Ledger>(
     steps: &mut Steps<L>,
 ) -> Result<Vec<EventPlace>, Memory>
     requires { AreShown (V.contents view.now) (V.world view.now) shown.now }
-    ensures { IfOk result (λ places. places.items ≡ all_placed (V.world view.now) 0 (entities_of shown.now)) }
+    ensures { IfOk result (λ places.
+        places.items ≡ all_placed (V.world view.now) 0 (entities_of shown.now)) }
 {
     let store = view.store();
     let _few_nodes = store.nodes();
@@ -269,9 +299,12 @@ pub(crate) fn places_in_order<'s, V: View, L: Ledger>(
     mut shown: Vec<Shown<'s>>,
     steps: &mut Steps<L>,
 ) -> Result<Listed<'s>, Memory>
-    requires entities { entities_of shown.items ≡ filter (appears (V.world view.now)) (all_entities (V.contents view.now)) }
+    requires entities { entities_of shown.items
+        ≡ filter (appears (V.world view.now)) (all_entities (V.contents view.now)) }
     requires parts { All (IsPart (V.contents view.now) (V.world view.now)) shown.items }
-    ensures { IfOk result (λ listed. AreListed (V.contents view.now) (V.world view.now) listed.shown.items listed.events.items) }
+    ensures { IfOk result (λ listed.
+        AreListed (V.contents view.now) (V.world view.now)
+        listed.shown.items listed.events.items) }
 {
     shown.sort_unstable_by(|a, b| a.subject.compare(&b.subject));
     let mut events = places_by_entity(alloc, view, shown.as_slice(), steps)?;
@@ -286,7 +319,9 @@ pub fn list_places<'s, V: View, L: Ledger>(
     view: &'s V,
     steps: &mut Steps<L>,
 ) -> Result<Listed<'s>, Memory>
-    ensures { IfOk result (λ listed. AreListed (V.contents view.now) (V.world view.now) listed.shown.items listed.events.items) }
+    ensures { IfOk result (λ listed.
+        AreListed (V.contents view.now) (V.world view.now)
+        listed.shown.items listed.events.items) }
 {
     let shown = shown_by_number(alloc, view, steps)?;
     places_in_order(alloc, view, shown, steps)

@@ -113,7 +113,9 @@ pub fn node_moments<V: View, L: Ledger>(
     steps: &mut Steps<L>,
 ) -> Result<Moments, Memory>
     requires { n.0 < length (V.contents view.now).nodes }
-    ensures { IfOk result (λ moments. moments ≡ map moment_of (events_of (V.world view.now) (node_at (V.contents view.now) n.0))) }
+    ensures { IfOk result (λ moments.
+        moments
+        ≡ map moment_of (events_of (V.world view.now) (node_at (V.contents view.now) n.0))) }
 {
     let history = view.store().node_history(n);
     let span = view.node_span(n, steps);
@@ -129,7 +131,9 @@ pub fn edge_moments<V: View, L: Ledger>(
     steps: &mut Steps<L>,
 ) -> Result<Moments, Memory>
     requires { e.0 < length (V.contents view.now).edges }
-    ensures { IfOk result (λ moments. moments ≡ map moment_of (events_of (V.world view.now) (edge_at (V.contents view.now) e.0))) }
+    ensures { IfOk result (λ moments.
+        moments
+        ≡ map moment_of (events_of (V.world view.now) (edge_at (V.contents view.now) e.0))) }
 {
     let history = view.store().edge_history(e);
     let span = view.edge_span(e, steps);

@@ -9,7 +9,7 @@ ghost use Rattle.materialise.specs.Listing.{entity_named, IsNumbered, IsPart, en
 ghost use Rattle.materialise.specs.Types.{AreMarked, types_listed, typed_node};
 
 use crate::listing::{Shown, Subject, shown_by_number};
-use graph_model::{Memory, Name, TypeList};
+use graph_model::{Memory, Name};
 use graph_store::{NodeId, Store};
 use std::alloc::Global;
 use std::sync::ledger::Ledger;
@@ -35,7 +35,9 @@ fn mark(flags: &mut Vec<bool>, n: NodeId)
 fn mark_named(flags: &mut Vec<bool>, store: &Store, one: Shown<'_>)
     requires numbered { IsNumbered store.now one.subject }
     requires len { length flags.old.items ≡ length store.now.nodes }
-    ensures { (es : List Entity) → AreMarked store.now es flags.old.items → AreMarked store.now (es ++ entity_named one.entry.subject ∷ []) flags.new.items }
+    ensures { (es : List Entity)
+        → AreMarked store.now es flags.old.items
+        → AreMarked store.now (es ++ entity_named one.entry.subject ∷ []) flags.new.items }
 {
     let _indexed = store.nodes();
     match one.subject {
@@ -51,7 +53,8 @@ fn mark_named(flags: &mut Vec<bool>, store: &Store, one: Shown<'_>)
 /// A flag for each node of the store: whether the shown nodes and edges name it.
 fn named_nodes<V: View>(alloc: Global, view: &V, shown: &[Shown<'_>]) -> Result<Vec<bool>, Memory>
     requires { All (IsPart (V.contents view.now) (V.world view.now)) shown.now }
-    ensures { IfOk result (λ flags. AreMarked (V.contents view.now) (entities_of shown.now) flags.items) }
+    ensures { IfOk result (λ flags.
+        AreMarked (V.contents view.now) (entities_of shown.now) flags.items) }
 {
     let store = view.store();
     let mut flags = vec![in alloc; false; store.nodes() as usize]?;
@@ -69,7 +72,10 @@ fn push_typed<'s>(
     is_named: bool,
 ) -> Result<(), Memory>
     requires { n.0 < length store.now.nodes }
-    ensures { OnOk result (types_listed typed.new.items ≡ types_listed typed.old.items ++ (if is_named then typed_node store.now.types (name_at store.now.nodes n.0) else [])) }
+    ensures { OnOk result (types_listed typed.new.items
+        ≡ types_listed typed.old.items
+        ++ (if is_named then typed_node store.now.types (name_at store.now.nodes n.0)
+        else [])) }
 {
     if !is_named {
         return Ok(());
@@ -82,8 +88,8 @@ fn push_typed<'s>(
     Ok(())
 }
 
-/// The nodes that the events of a view name and that have types, by their numbers, where a flag says
-/// of each node whether it is named.
+/// The nodes that the events of a view name and that have types, by their numbers, where a flag
+/// says of each node whether it is named.
 fn typed_nodes<'s, V: View>(
     alloc: Global,
     view: &'s V,
@@ -91,8 +97,12 @@ fn typed_nodes<'s, V: View>(
     flags: &[bool],
 ) -> Result<Vec<TypedNode<'s>>, Memory>
     requires marked { AreMarked (V.contents view.now) (entities_of shown.now) flags.now }
-    requires entities { entities_of shown.now ≡ filter (appears (V.world view.now)) (all_entities (V.contents view.now)) }
-    ensures { IfOk result (λ typed. types_listed typed.items ≡ flat_map (typed_node (V.contents view.now).types) (filter (named (V.world view.now).events) (V.contents view.now).nodes)) }
+    requires entities { entities_of shown.now
+        ≡ filter (appears (V.world view.now)) (all_entities (V.contents view.now)) }
+    ensures { IfOk result (λ typed.
+        types_listed typed.items
+        ≡ flat_map (typed_node (V.contents view.now).types)
+        (filter (named (V.world view.now).events) (V.contents view.now).nodes)) }
 {
     let store = view.store();
     let mut typed = Vec::new(alloc);
@@ -102,25 +112,15 @@ fn typed_nodes<'s, V: View>(
     Ok(typed)
 }
 
-/// A list of types of nodes.
-fn copied(alloc: Global, typed: &[TypedNode<'_>]) -> Result<TypeList, Memory>
-    ensures { IfOk result (λ types. types ≡ types_listed typed.now) }
-{
-    let mut types = TypeList::new(alloc);
-    for one in typed {
-        types.push((one.node.copy()?, one.kind.copy()?))?;
-    }
-    Ok(types)
-}
-
-/// The nodes that the events of a view name and that have types, rising by the node's name. The nodes
-/// and edges are those that have events in the view, by their numbers.
+/// The nodes that the events of a view name and that have types, rising by the node's name. The
+/// nodes and edges are those that have events in the view, by their numbers.
 pub(crate) fn typed_in_order<'s, V: View>(
     alloc: Global,
     view: &'s V,
     shown: &[Shown<'_>],
 ) -> Result<Vec<TypedNode<'s>>, Memory>
-    requires entities { entities_of shown.now ≡ filter (appears (V.world view.now)) (all_entities (V.contents view.now)) }
+    requires entities { entities_of shown.now
+        ≡ filter (appears (V.world view.now)) (all_entities (V.contents view.now)) }
     requires parts { All (IsPart (V.contents view.now) (V.world view.now)) shown.now }
     ensures { IfOk result (λ typed. types_listed typed.items ≡ (V.world view.now).types) }
 {
@@ -132,16 +132,15 @@ pub(crate) fn typed_in_order<'s, V: View>(
     Ok(typed)
 }
 
-/// The types of the nodes that the events of a view name, rising by the node's name. The span of each
-/// node and edge of the store is asked once.
-pub fn list_types<V: View, L: Ledger>(
+/// The nodes that the events of a view name and that have types, rising by the node's name. The
+/// span of each node and edge of the store is asked once.
+pub fn list_typed_nodes<'s, V: View, L: Ledger>(
     alloc: Global,
-    view: &V,
+    view: &'s V,
     steps: &mut Steps<L>,
-) -> Result<TypeList, Memory>
-    ensures { IfOk result (λ types. types ≡ (V.world view.now).types) }
+) -> Result<Vec<TypedNode<'s>>, Memory>
+    ensures { IfOk result (λ typed. types_listed typed.items ≡ (V.world view.now).types) }
 {
     let shown = shown_by_number(alloc, view, steps)?;
-    let typed = typed_in_order(alloc, view, shown.as_slice())?;
-    copied(alloc, typed.as_slice())
+    typed_in_order(alloc, view, shown.as_slice())
 }

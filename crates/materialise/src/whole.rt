@@ -26,8 +26,11 @@ pub fn list_whole<'s, V: View, L: Ledger>(
     view: &'s V,
     steps: &mut Steps<L>,
 ) -> Result<WholeList<'s>, Memory>
-    ensures types { IfOk result (λ whole. types_listed whole.types.items ≡ (V.world view.now).types) }
-    ensures events { IfOk result (λ whole. AreListed (V.contents view.now) (V.world view.now) whole.listed.shown.items whole.listed.events.items) }
+    ensures types { IfOk result (λ whole.
+        types_listed whole.types.items ≡ (V.world view.now).types) }
+    ensures events { IfOk result (λ whole.
+        AreListed (V.contents view.now) (V.world view.now)
+        whole.listed.shown.items whole.listed.events.items) }
 {
     let shown = shown_by_number(alloc, view, steps)?;
     let types = typed_in_order(alloc, view, shown.as_slice())?;

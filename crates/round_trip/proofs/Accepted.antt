@@ -31,9 +31,10 @@ use Rattle.world_laws.proofs.Rows.{each_contained}
 use Rattle.world_laws.proofs.RisingItems.{Rises-put}
 use Rattle.event_rows.specs.Sayable.{IsSayable, IsSayableProp, IsSayableType, IsSayableWhat, are_bounds}
 use Rattle.round_trip.specs.Printable.{IsPrintable}
-use Rattle.round_trip.proofs.KeyTypes.{typed_more}
-use Rattle.round_trip.proofs.Limits.{IsOf, IsTypeOf, IsWithin, each_own, each_own_type, within_fewer, within_passed}
-use Rattle.round_trip.proofs.Lists.{each_front, each_middle}
+use Rattle.world_laws.proofs.KeyTypes.{typed_more}
+use Rattle.world_laws.specs.Storable.{AreWithinLimits}
+use Rattle.world_laws.proofs.Limits.{IsOf, IsTypeOf, each_own, each_own_type, within_fewer, within_passed}
+use Rattle.world_laws.proofs.ListParts.{each_front, each_middle}
 use Rattle.round_trip.proofs.ReadAgain.{world_again}
 use Rattle.round_trip.proofs.Sayings.{bounds-first, row-said}
 
@@ -45,7 +46,7 @@ record IsRead (model : Model) (r : Reading) : Type 0 where
   pub rise : Rises type_cmp r.types
   pub allowed : AllByRecursion (λ x. allows model x ≡ true) r.accepted
   pub typed : all_typed r.accepted ≡ true
-  pub limits : IsWithin r.accepted r.types
+  pub limits : AreWithinLimits r.accepted r.types
 
 -- ---- refusals
 
@@ -53,19 +54,19 @@ not_passed : (o : Option Counted) (why : RecordRefusal) → (if is_some o then S
 not_passed None why e = refl
 not_passed (Some k) why e = cc e
 
-type_kept : (accepted : List Event) (types : List (List ℕ × List ℕ)) (node name : List ℕ) → type_refusal accepted types node name ≡ None → IsWithin accepted (types ++ (node, name) ∷ [])
+type_kept : (accepted : List Event) (types : List (List ℕ × List ℕ)) (node name : List ℕ) → type_refusal accepted types node name ≡ None → AreWithinLimits accepted (types ++ (node, name) ∷ [])
 type_kept accepted types node name e = by (is_other_type types node name) e
   where
-    by : (b : Bool) → (if b then Some Retype else (if is_some (passed_limit accepted (types ++ (node, name) ∷ [])) then Some Limit else None)) ≡ None → IsWithin accepted (types ++ (node, name) ∷ [])
+    by : (b : Bool) → (if b then Some Retype else (if is_some (passed_limit accepted (types ++ (node, name) ∷ [])) then Some Limit else None)) ≡ None → AreWithinLimits accepted (types ++ (node, name) ∷ [])
     by true e = cc e
     by false e = within_passed accepted (types ++ (node, name) ∷ []) (not_passed (passed_limit accepted (types ++ (node, name) ∷ [])) Limit e)
 
-event_kept : (model : Model) (accepted : List Event) (types : List (List ℕ × List ℕ)) (x : Event) → event_refusal model accepted types x ≡ None → (allows model x ≡ true) × (mistyped accepted x ≡ None) × IsWithin (accepted ++ x ∷ []) types
+event_kept : (model : Model) (accepted : List Event) (types : List (List ℕ × List ℕ)) (x : Event) → event_refusal model accepted types x ≡ None → (allows model x ≡ true) × (mistyped accepted x ≡ None) × AreWithinLimits (accepted ++ x ∷ []) types
 event_kept model accepted types x e = by (allows model x) (mistyped accepted x) refl refl e
   where
     by : (b : Bool) (o : Option (List ℕ × Value)) → allows model x ≡ b → mistyped accepted x ≡ o
         → (if not b then Some Deletion else (if is_some o then Some KeyType else (if is_some (passed_limit (accepted ++ x ∷ []) types) then Some Limit else None))) ≡ None
-        → (allows model x ≡ true) × (mistyped accepted x ≡ None) × IsWithin (accepted ++ x ∷ []) types
+        → (allows model x ≡ true) × (mistyped accepted x ≡ None) × AreWithinLimits (accepted ++ x ∷ []) types
     by false o is typed e = cc e
     by true (Some p) is typed e = cc e
     by true None is typed e = (is, typed, within_passed (accepted ++ x ∷ []) types (not_passed (passed_limit (accepted ++ x ∷ []) types) Limit e))
@@ -80,7 +81,7 @@ each_put_type P t (s ∷ ts) h k =
     (λ e. cond_both (is_gt (type_cmp t s)) (s ∷ put_rising type_cmp t ts) (s ∷ ts) (AllByRecursion P) (λ f. (k.0, each_put_type P t ts h k.1)) (λ f. k))
 
 -- the types with one more
-limits_put : (accepted : List Event) (t : List ℕ × List ℕ) (types : List (List ℕ × List ℕ)) → IsWithin accepted (types ++ t ∷ []) → IsWithin accepted (put_type t types)
+limits_put : (accepted : List Event) (t : List ℕ × List ℕ) (types : List (List ℕ × List ℕ)) → AreWithinLimits accepted (types ++ t ∷ []) → AreWithinLimits accepted (put_type t types)
 limits_put accepted t types h =
     let all = each_own_type (types ++ t ∷ []) in
     within_fewer accepted (types ++ t ∷ []) accepted (put_type t types) h (omega arith) (each_own accepted)
@@ -163,7 +164,7 @@ read_all model r number (fields ∷ more) some begins h =
 no_more : (model : Model) → IsRead model nothing_read
 no_more model = record { bounds = refl; events = tt; types = tt; rise = tt; allowed = tt; typed = refl; limits = few }
   where
-    few : IsWithin [] []
+    few : AreWithinLimits [] []
     few Events = omega arith
     few Nodes = omega arith
     few Layers = omega arith
@@ -181,14 +182,16 @@ bounds_rise i h = (and_parts (int_le i.lo i.hi) (int_le i.hi latest) (and_parts 
 
 world_read : (model : Model) (r : Reading) → IsRead model r → IsPrintable (world_of model r)
 world_read model r h = record {
-  lawful = IsLawful-base model r.bounds r.types r.accepted (bounds_rise r.bounds h.bounds)
-      (all_pass (λ x. is_inside r.bounds x.time) r.accepted (each_weaker (IsSayable r.bounds) (λ x. is_inside r.bounds x.time ≡ true) (λ x k. k.1) r.accepted h.events))
-      (all_pass (allows model) r.accepted h.allowed)
-      (each_weaker (IsSayable r.bounds) (λ x. KeysRise (props_of x)) (λ x k. sayable_rise x.what k.3) r.accepted h.events)
-      h.typed h.rise;
-  limits = let size = length_in_order event_cmp r.accepted in
-      within_fewer r.accepted r.types (arrange r.accepted) (types_in (arrange r.accepted) r.types) h.limits (omega (arith, size)) (each_in_order event_cmp (IsOf r.accepted) r.accepted (each_own r.accepted))
-      (each_kept (IsTypeOf r.types) (λ (t : List ℕ × List ℕ). named (arrange r.accepted) t.0) r.types (each_own_type r.types));
+  storable = record {
+    lawful = IsLawful-base model r.bounds r.types r.accepted (bounds_rise r.bounds h.bounds)
+        (all_pass (λ x. is_inside r.bounds x.time) r.accepted (each_weaker (IsSayable r.bounds) (λ x. is_inside r.bounds x.time ≡ true) (λ x k. k.1) r.accepted h.events))
+        (all_pass (allows model) r.accepted h.allowed)
+        (each_weaker (IsSayable r.bounds) (λ x. KeysRise (props_of x)) (λ x k. sayable_rise x.what k.3) r.accepted h.events)
+        h.typed h.rise;
+    limits = let size = length_in_order event_cmp r.accepted in
+        within_fewer r.accepted r.types (arrange r.accepted) (types_in (arrange r.accepted) r.types) h.limits (omega (arith, size)) (each_in_order event_cmp (IsOf r.accepted) r.accepted (each_own r.accepted))
+        (each_kept (IsTypeOf r.types) (λ (t : List ℕ × List ℕ). named (arrange r.accepted) t.0) r.types (each_own_type r.types));
+  };
   bounds = h.bounds;
   types = each_kept IsSayableType (λ (t : List ℕ × List ℕ). named (arrange r.accepted) t.0) r.types h.types;
   events = each_in_order event_cmp (IsSayable r.bounds) r.accepted h.events;

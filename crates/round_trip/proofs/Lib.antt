@@ -1,6 +1,3 @@
-pub mod Lists
-pub mod Limits
-pub mod KeyTypes
 pub mod ReadAgain
 pub mod Sayings
 pub mod Accepted

@@ -42,7 +42,8 @@ use Rattle.world_laws.proofs.Times.{cut_ordered, inside_hi, inside_lo, le_from_t
 use Rattle.event_rows.specs.Sayable.{IsSayable, IsSayableProp, IsSayableType, IsSayableWhat, are_bounds, is_edge_name}
 use Rattle.graph_model.specs.TextForm.{is_name}
 use Rattle.round_trip.specs.Printable.{IsPrintable}
-use Rattle.round_trip.proofs.Limits.{Among, IsIn, IsOf, IsTypeOf, IsWithin, each_mapped, each_own, each_own_type, rising_fewer, within_fewer}
+use Rattle.world_laws.specs.Storable.{AreWithinLimits}
+use Rattle.world_laws.proofs.Limits.{Among, IsIn, IsOf, IsTypeOf, each_mapped, each_own, each_own_type, rising_fewer, within_fewer}
 use Rattle.round_trip.proofs.Sayings.{each-put}
 
 -- ---- what is carried
@@ -156,7 +157,7 @@ few_keys ps keys rise each few =
     omega (arith, size, fewer, few)
 
 -- an event has no more properties than there are keys of its kind
-few_props : (xs : List Event) (ts : List (List ℕ × List ℕ)) (x : Event) → IsWithin xs ts → IsOf xs x → KeysRise (props_of x) → length (props_of x) ≤ 256
+few_props : (xs : List Event) (ts : List (List ℕ × List ℕ)) (x : Event) → AreWithinLimits xs ts → IsOf xs x → KeysRise (props_of x) → length (props_of x) ≤ 256
 few_props xs ts x within own rise = by (is_node (entity_of x)) refl
   where
     by : (b : Bool) → is_node (entity_of x) ≡ b → length (props_of x) ≤ 256
@@ -206,7 +207,7 @@ record AreShown (w : World) (xs : List Event) : Type 0 where
   pub own : AllByRecursion (IsOf w.events) xs
   pub sayable : AllByRecursion HasSayable xs
 
-events_sayable : (w : World) (bounds : Interval) (xs : List Event) → IsWithin w.events w.types → IsTrue (are_bounds bounds) → AllByRecursion (λ x. is_inside bounds x.time ≡ true) xs → AllByRecursion (λ x. KeysRise (props_of x)) xs
+events_sayable : (w : World) (bounds : Interval) (xs : List Event) → AreWithinLimits w.events w.types → IsTrue (are_bounds bounds) → AllByRecursion (λ x. is_inside bounds x.time ≡ true) xs → AllByRecursion (λ x. KeysRise (props_of x)) xs
     → AllByRecursion (IsOf w.events) xs → AllByRecursion HasSayable xs → AllByRecursion (IsSayable bounds) xs
 events_sayable w bounds [] within is inside rise own sayable = tt
 events_sayable w bounds (x ∷ xs) within is inside rise own sayable = (
@@ -216,11 +217,10 @@ events_sayable w bounds (x ∷ xs) within is inside rise own sayable = (
 
 remade : (w : World) (bounds : Interval) (xs : List Event) → IsPrintable w → IsLawful (remake w bounds xs) → IsTrue (are_bounds bounds) → AreShown w xs → IsPrintable (remake w bounds xs)
 remade w bounds xs h lawful is shown = record {
-  lawful = lawful;
-  limits = within_fewer w.events w.types xs (types_in xs w.types) h.limits shown.few shown.own (each_kept (IsTypeOf w.types) (λ (t : List ℕ × List ℕ). named xs t.0) w.types (each_own_type w.types));
+  storable = record { lawful = lawful; limits = within_fewer w.events w.types xs (types_in xs w.types) h.storable.limits shown.few shown.own (each_kept (IsTypeOf w.types) (λ (t : List ℕ × List ℕ). named xs t.0) w.types (each_own_type w.types)) };
   bounds = is;
   types = each_kept IsSayableType (λ (t : List ℕ × List ℕ). named xs t.0) w.types h.types;
-  events = events_sayable w bounds xs h.limits is (each_passes (λ x. is_inside bounds x.time) xs lawful.inside) lawful.rising shown.own shown.sayable;
+  events = events_sayable w bounds xs h.storable.limits is (each_passes (λ x. is_inside bounds x.time) xs lawful.inside) lawful.rising shown.own shown.sayable;
 }
 
 all_sayable : (w : World) → IsPrintable w → AllByRecursion HasSayable w.events
@@ -229,12 +229,12 @@ all_sayable w h = each_weaker (IsSayable w.bounds) HasSayable (λ x k. HasSayabl
 pub keep_printable : (p : Entity → Bool) (w : World) → IsPrintable w → IsPrintable (keep p w)
 keep_printable p w h =
     let t : Event → Bool = λ x. p (entity_of x) in
-    remade w w.bounds (filter t w.events) h (IsLawful-keep p w h.lawful) h.bounds (record { few = length_filter_le t w.events; own = each_kept (IsOf w.events) t w.events (each_own w.events); sayable = each_kept HasSayable t w.events (all_sayable w h) })
+    remade w w.bounds (filter t w.events) h (IsLawful-keep p w h.storable.lawful) h.bounds (record { few = length_filter_le t w.events; own = each_kept (IsOf w.events) t w.events (each_own w.events); sayable = each_kept HasSayable t w.events (all_sayable w h) })
 
 pub window_printable : (w : World) (a b : ℤ) → a ≤ℤ latest → IsPrintable w → IsPrintable (window w a b)
 window_printable w a b begins h =
     let i = cut w.bounds a b in
-    remade w i (window_list w.model i w.events) h (IsLawful-window w a b h.lawful) (cut_bounds w.bounds a b h.bounds begins)
+    remade w i (window_list w.model i w.events) h (IsLawful-window w a b h.storable.lawful) (cut_bounds w.bounds a b h.bounds begins)
     (record { few = length_window_list w.model i w.events; own = each_shown (IsOf w.events) (IsOf-carried w.events) w.model i w.events (each_own w.events); sayable = each_shown HasSayable HasSayable-carried w.model i w.events (all_sayable w h) })
 
 -- ---- views, stacks and windows

@@ -6,10 +6,10 @@ use Rattle.world_laws.proofs.Counts.{length_in_order}
 use Rattle.world_laws.proofs.Filters.{each_kept}
 use Rattle.world_laws.proofs.InOrder.{each_in_order}
 use Rattle.graph_store.specs.Contents.{Contents, base_of}
-use Rattle.materialise.specs.Storable.{IsStorable}
-use Rattle.round_trip.proofs.Limits.{IsOf, IsTypeOf, IsWithin, each_own, each_own_type, within_fewer}
+use Rattle.world_laws.specs.Storable.{AreWithinLimits, IsStorable}
+use Rattle.world_laws.proofs.Limits.{IsOf, IsTypeOf, each_own, each_own_type, within_fewer}
 
-pub base_storable : (c : Contents) → IsLawful (base_of c) → IsWithin c.accepted c.types → IsStorable (base_of c)
+pub base_storable : (c : Contents) → IsLawful (base_of c) → AreWithinLimits c.accepted c.types → IsStorable (base_of c)
 base_storable c lawful within =
     let size = length_in_order event_cmp c.accepted in
     record {

@@ -7,7 +7,7 @@ use csv::ByteRecord;
 use event_rows::{Parsed, RecordReader, event_text, read_row, span_text, type_text};
 use graph_model::{Bounds, EventList, Memory, Model, TypeList};
 use graph_store::{EdgeId, NodeId, Store};
-use materialise::{Moments, edge_moments, into_store, list_types, list_world, node_moments};
+use materialise::{Moments, edge_moments, node_moments};
 use std::alloc::Global;
 use std::marker::Brand;
 use std::process::Abort;
@@ -17,6 +17,7 @@ use time_column::Steps;
 use view_trait::View;
 use walk_algorithms::{DegreeRows, degrees};
 use window_view::window;
+use world_copies::{into_store, list_types, list_world};
 
 /// Puts what a record says into a store, and says whether it was accepted.
 fn put_said<L: Ledger>(
