@@ -155,15 +155,6 @@ fn refused<L: Ledger>(
     Ok(())
 }
 
-fn refused_events<L: Ledger>(
-    rt: &impl Abort,
-    alloc: Global,
-    steps: &mut Steps<L>,
-) -> Result<(), Fail> {
-    let mut store = Store::new(alloc, Lasting::Event, Bounds::whole());
-    refused(rt, alloc, &mut store, steps)
-}
-
 /// Edges from a to b in 64 layers, and what becomes of the last.
 fn layered<L: Ledger>(
     alloc: Global,
@@ -226,15 +217,6 @@ fn one_pair<L: Ledger>(
     assert_eq!(rt; pairs_at(store, 1), [None, None, Some(PairId(0)), None]);
     assert!(rt; has_edges(store, 0, 64));
     Ok(())
-}
-
-fn one_pair_of_sixty_four_edges<L: Ledger>(
-    rt: &impl Abort,
-    alloc: Global,
-    steps: &mut Steps<L>,
-) -> Result<(), Fail> {
-    let mut store = Store::new(alloc, Lasting::Event, Bounds::whole());
-    one_pair(rt, alloc, &mut store, steps)
 }
 
 /// The times of an edge's two updates, and which of them delete it.
@@ -325,13 +307,41 @@ fn taken_and_read<L: Ledger>(
     read(rt, alloc, store)
 }
 
-fn late_deletion<L: Ledger>(
+/// What is done with a new store.
+#[derive(Clone, Copy)]
+enum Case {
+    /// Events that are refused leave nothing behind.
+    Refused,
+    /// One pair has 64 edges, each in a layer of its own.
+    OnePair,
+    /// A deletion comes late.
+    LateDeletion,
+}
+
+fn played<L: Ledger>(
     rt: &impl Abort,
     alloc: Global,
+    case: Case,
+    store: &mut Store,
     steps: &mut Steps<L>,
 ) -> Result<(), Fail> {
-    let mut store = Store::new(alloc, Lasting::Persistent, Bounds::whole());
-    taken_and_read(rt, alloc, &mut store, steps)
+    match case {
+        Case::Refused => refused(rt, alloc, store, steps),
+        Case::OnePair => one_pair(rt, alloc, store, steps),
+        Case::LateDeletion => taken_and_read(rt, alloc, store, steps),
+    }
+}
+
+// One function has the store, since each that has one is proved to give it back, which takes long.
+fn in_new_store<L: Ledger>(
+    rt: &impl Abort,
+    alloc: Global,
+    model: Lasting,
+    case: Case,
+    steps: &mut Steps<L>,
+) -> Result<(), Fail> {
+    let mut store = Store::new(alloc, model, Bounds::whole());
+    played(rt, alloc, case, &mut store, steps)
 }
 
 fn all_rows<L: Ledger>(rt: &impl Abort, alloc: Global, blank: Blank) -> Result<(), Fail>
@@ -340,9 +350,15 @@ fn all_rows<L: Ledger>(rt: &impl Abort, alloc: Global, blank: Blank) -> Result<(
     requires one { blank.parts ≡ 1 }
 {
     let mut steps = Steps::<L>::new(blank);
-    refused_events(rt, alloc, &mut steps)?;
-    one_pair_of_sixty_four_edges(rt, alloc, &mut steps)?;
-    late_deletion(rt, alloc, &mut steps)
+    in_new_store(rt, alloc, Lasting::Event, Case::Refused, &mut steps)?;
+    in_new_store(rt, alloc, Lasting::Event, Case::OnePair, &mut steps)?;
+    in_new_store(
+        rt,
+        alloc,
+        Lasting::Persistent,
+        Case::LateDeletion,
+        &mut steps,
+    )
 }
 
 #[test]
