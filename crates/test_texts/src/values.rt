@@ -1,5 +1,5 @@
 //! What is read, compared and printed, at worked values.
-use graph_model::{Cmp, ValueType};
+use graph_model::{Cmp, Value};
 use property_values::{PropFault, compare, print_value, read_property, read_whole, type_of};
 use std::alloc::{AllocError, Global};
 use std::test::Fail;
@@ -29,56 +29,48 @@ fn whole_numbers(rt: HostRuntime) {
         ("1e3", None),
         ("٣", None),
     ] {
-        assert_eq!(rt; read_whole(text), want, "at {text}");
+        assert!(rt; read_whole(text) == want, "at {text}");
+    }
+}
+
+/// A property that is read of a field and printed again, or nothing where the field is none.
+fn printed(alloc: Global, field: &str) -> Result<Vec<u8>, AllocError> {
+    match read_property(alloc, field) {
+        Ok((key, value)) => {
+            let mut text = Vec::from_slice(alloc, key.as_str().as_bytes())?;
+            text.push(b':')?;
+            print_value(&value, &mut text)?;
+            Ok(text)
+        }
+        Err(PropFault::Form) => Ok(Vec::new(alloc)),
+        Err(PropFault::Memory) => Err(AllocError),
     }
 }
 
 #[test]
-fn properties(rt: HostRuntime) -> Result<(), Fail> {
+fn properties_are_read_and_printed(rt: HostRuntime) -> Result<(), Fail> {
     for (field, want) in [
-        ("w:i=5", Some(("w", "i=5"))),
-        ("w:i=-007", Some(("w", "i=-7"))),
-        ("w:b=true", Some(("w", "b=true"))),
-        ("w:b=false", Some(("w", "b=false"))),
-        ("w:s=", Some(("w", "s="))),
-        ("w:s=a:b", Some(("w", "s=a:b"))),
-        ("a=b c:s= i=5 ", Some(("a=b c", "s= i=5 "))),
-        ("é:s=ü", Some(("é", "s=ü"))),
-        ("w::i=5", None),
-        (":i=5", None),
-        ("w", None),
-        ("w:", None),
-        ("w:i=", None),
-        ("w:i=five", None),
-        ("w:i=9223372036854775808", None),
-        ("w:b=True", None),
-        ("w:b=", None),
-        ("w:f=1.5", None),
-        ("w:I=5", None),
-        ("", None),
+        ("w:i=5", "w:i=5"),
+        ("w:i=-007", "w:i=-7"),
+        ("w:b=true", "w:b=true"),
+        ("w:b=false", "w:b=false"),
+        ("w:s=", "w:s="),
+        ("w:s=a:b", "w:s=a:b"),
+        ("a=b c:s= i=5 ", "a=b c:s= i=5 "),
+        ("é:s=ü", "é:s=ü"),
+        ("w::i=5", ""),
+        (":i=5", ""),
+        ("w", ""),
+        ("w:", ""),
+        ("w:i=", ""),
+        ("w:i=five", ""),
+        ("w:i=9223372036854775808", ""),
+        ("w:b=True", ""),
+        ("w:f=1.5", ""),
+        ("w:I=5", ""),
     ] {
-        match read_property(rt.alloc(), field) {
-            Ok((key, value)) => {
-                let mut printed = Vec::from_slice(rt.alloc(), key.as_str().as_bytes())?;
-                printed.push(b':')?;
-                print_value(&value, &mut printed)?;
-                let (key, text) = want.ok_or("no property")?;
-                let whole = format!(in rt.alloc(); "{key}:{text}")?;
-                assert_eq!(rt; printed.as_slice(), whole.as_bytes(), "at {field}");
-            }
-            Err(PropFault::Form) => assert!(rt; want.is_none(), "at {field}"),
-            Err(PropFault::Memory) => return Err(AllocError.into()),
-        }
-    }
-    for (key, text, want) in [
-        (256, 0, true),
-        (257, 0, false),
-        (1, 4096, true),
-        (1, 4097, false),
-    ] {
-        let field = field_of(rt.alloc(), key, text)?;
-        let is_read = read_property(rt.alloc(), field.as_str()).is_ok();
-        assert_eq!(rt; is_read, want, "at {key} and {text} bytes");
+        let text = printed(rt.alloc(), field)?;
+        assert!(rt; text.as_slice() == want.as_bytes(), "at {field}");
     }
     Ok(())
 }
@@ -97,75 +89,52 @@ fn field_of(alloc: Global, key: usize, text: usize) -> Result<String, AllocError
 }
 
 #[test]
+fn longest_properties(rt: HostRuntime) -> Result<(), Fail> {
+    for (key, text, want) in [
+        (256, 0, true),
+        (257, 0, false),
+        (1, 4096, true),
+        (1, 4097, false),
+    ] {
+        let field = field_of(rt.alloc(), key, text)?;
+        assert!(rt; read_property(rt.alloc(), field.as_str()).is_ok() == want);
+    }
+    Ok(())
+}
+
+/// Whether one value is equal to another, and whether it differs, is less, at most as large, greater
+/// and at least as large.
+fn compared(first: &Value, second: &Value) -> [bool; 6] {
+    [
+        compare(first, Cmp::Eq, second),
+        compare(first, Cmp::Ne, second),
+        compare(first, Cmp::Lt, second),
+        compare(first, Cmp::Le, second),
+        compare(first, Cmp::Gt, second),
+        compare(first, Cmp::Ge, second),
+    ]
+}
+
+#[test]
 fn comparisons(rt: HostRuntime) -> Result<(), Fail> {
-    for (left, right, types, wants) in [
-        (
-            "w:i=-1",
-            "w:i=0",
-            (ValueType::Int, ValueType::Int),
-            [false, true, true, true, false, false],
-        ),
-        (
-            "w:i=10",
-            "w:i=9",
-            (ValueType::Int, ValueType::Int),
-            [false, true, false, false, true, true],
-        ),
-        (
-            "w:i=7",
-            "w:i=007",
-            (ValueType::Int, ValueType::Int),
-            [true, false, false, true, false, true],
-        ),
-        (
-            "w:b=false",
-            "w:b=true",
-            (ValueType::Flag, ValueType::Flag),
-            [false, true, true, true, false, false],
-        ),
-        (
-            "w:s=10",
-            "w:s=9",
-            (ValueType::Text, ValueType::Text),
-            [false, true, true, true, false, false],
-        ),
-        (
-            "w:s=a",
-            "w:s=Z",
-            (ValueType::Text, ValueType::Text),
-            [false, true, false, false, true, true],
-        ),
-        (
-            "w:s=a",
-            "w:s=aa",
-            (ValueType::Text, ValueType::Text),
-            [false, true, true, true, false, false],
-        ),
-        (
-            "w:i=1",
-            "w:s=1",
-            (ValueType::Int, ValueType::Text),
-            [false; 6],
-        ),
-        (
-            "w:b=true",
-            "w:i=1",
-            (ValueType::Flag, ValueType::Int),
-            [false; 6],
-        ),
+    let less = [false, true, true, true, false, false];
+    let equal = [true, false, false, true, false, true];
+    let greater = [false, true, false, false, true, true];
+    for (left, right, want) in [
+        ("w:i=-1", "w:i=0", less),
+        ("w:i=10", "w:i=9", greater),
+        ("w:i=7", "w:i=007", equal),
+        ("w:b=false", "w:b=true", less),
+        ("w:s=10", "w:s=9", less),
+        ("w:s=a", "w:s=Z", greater),
+        ("w:s=a", "w:s=aa", less),
+        ("w:i=1", "w:s=1", [false; 6]),
+        ("w:b=true", "w:i=1", [false; 6]),
     ] {
         let (_, first) = read_property(rt.alloc(), left)?;
         let (_, second) = read_property(rt.alloc(), right)?;
-        assert!(rt; type_of(&first) == types.0, "at {left}");
-        assert!(rt; type_of(&second) == types.1, "at {right}");
-        let cmps = [Cmp::Eq, Cmp::Ne, Cmp::Lt, Cmp::Le, Cmp::Gt, Cmp::Ge];
-        for (cmp, want) in cmps.into_iter().zip(wants) {
-            assert_eq!(rt;
-                compare(&first, cmp, &second),
-                want,
-                "at {left} and {right}"
-            );
-        }
+        assert!(rt; compared(&first, &second) == want, "at {left} and {right}");
+        assert!(rt; (type_of(&first) == type_of(&second)) == (want != [false; 6]));
     }
     Ok(())
 }
