@@ -13,11 +13,12 @@ use Rattle.graph_model.specs.Names.{name_cmp, same_name}
 use Rattle.graph_model.specs.Props.{has_key, put_prop, overwrite, KeysRise}
 use Rattle.graph_model.proofs.PropItems.{KeysRise-put}
 use Rattle.world_laws.proofs.Distinct.{any-put_prop}
+use Rattle.world_laws.proofs.ListParts.{each_drop}
 use Rattle.time_history.specs.KeyValues.{KeysRise as NumbersRise}
 use Rattle.time_history.specs.Told.{named}
 use Rattle.materialise.specs.declared.borrowed.Property.{Property}
 use Rattle.materialise.specs.Borrowed.{props_borrowed}
-use Rattle.materialise.proofs.LiveProps.{no_value, key_there, key_below, named_more, overwrite_more, each_drop, other_name}
+use Rattle.materialise.proofs.LiveProps.{no_value, key_there, key_below, named_more, overwrite_more, other_name}
 
 put_cases : (x y : Property) (ys : List Property) (n : ℕ) → put_prop (x.key.now, x.value.now) (props_borrowed ys) ≡ props_borrowed (insert ys n x) → (t : Bool)
     → cond t ((x.key.now, x.value.now) ∷ (y.key.now, y.value.now) ∷ props_borrowed ys) ((y.key.now, y.value.now) ∷ put_prop (x.key.now, x.value.now) (props_borrowed ys)) ≡ props_borrowed (insert (y ∷ ys) (cond (not t) (1 + n) 0) x)

@@ -22,6 +22,7 @@ use Rattle.graph_model.specs.Compare.{live, last_value}
 use Rattle.graph_model.specs.Entity.{is_deletion, props_of, what_props}
 use Rattle.graph_model.specs.Window.{last_props}
 use Rattle.world_laws.proofs.Filters.{each_weaker}
+use Rattle.world_laws.proofs.ListParts.{each_drop, each_take}
 use Rattle.world_laws.proofs.Order.{name_exact, same_name-refl, same_name-exact}
 use Rattle.world_laws.proofs.Carried.{each_live}
 use Rattle.world_laws.proofs.Distinct.{first_some, less_apart, prop_value-cons, prop_value-none, prop_value-some, any-put_prop, value-put_prop, value-overwrite, last_or-append, Distinct-rising, Distinct-put_prop}
@@ -265,16 +266,6 @@ lacks_told (Node other) names n name none kind ps h = prop_value-none name (name
 lacks_told (Edge edge) names n name none OfNode ps h = prop_value-none name (named names ps) (lacks_key names n name none ps h)
 lacks_told (Edge edge) names n name none Add ps h = prop_value-none name (named names ps) (lacks_key names n name none ps h)
 lacks_told (Edge edge) names n name none Delete ps h = refl
-
-each_take : {X : Type 0} (P : X → Type 0) (n : ℕ) (xs : List X) → AllByRecursion P xs → AllByRecursion P (take n xs)
-each_take P zero xs h = tt
-each_take P (suc n) [] h = tt
-each_take P (suc n) (x ∷ xs) h = (h.0, each_take P n xs h.1)
-
-pub each_drop : {X : Type 0} (P : X → Type 0) (n : ℕ) (xs : List X) → AllByRecursion P xs → AllByRecursion P (drop n xs)
-each_drop P zero xs h = h
-each_drop P (suc n) [] h = tt
-each_drop P (suc n) (x ∷ xs) h = each_drop P n xs h.1
 
 -- events that are told lack all names but those of numbers below n
 lacks_all : (x : Entity) (names : ℕ → List ℕ) (n : ℕ) (us : List Update) → AreNamed names n us → (name : List ℕ) → ((k : ℕ) → k < n → name ≡ names k → ⊥) → AllByRecursion (λ y. prop_value name (props_of y) ≡ None) (events_told x names us)

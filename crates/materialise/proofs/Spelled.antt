@@ -1,7 +1,7 @@
 -- The moments of a span are those of the events that it spells.
 use Rattle.std.proofs.Common.{◌≡◌, ℕ, ◌+◌, ◌-◌, ◌<◌, ◌≤◌, ℤ, Bool, true, false, not, List, [], ◌∷◌, ◌++◌, map, cond, length, take, slice_range, nat_lt, refl, sym, ◌∙◌, ap, arith, append_assoc}
 use Rattle.std.specs.List.{AllByRecursion}
-use Rattle.std.proofs.lemmas.Bool.{and_parts}
+use Rattle.std.proofs.lemmas.Bool.{and_parts, not-true}
 use Rattle.std.proofs.lemmas.Bool.Decides.{nat_tests}
 use Rattle.std.proofs.lemmas.List.{map-append}
 use Rattle.graph_model.specs.declared.properties.Value.{Value}
@@ -57,11 +57,7 @@ has_before us from h =
     grind (arith, nat_tests)
 
 kept_before : (us : List Update) (from : ℕ) → carries Persistent us from ≡ true → is_delete (update_at us (from - 1)).kind ≡ false
-kept_before us from h = undeleted (is_delete (update_at us (from - 1)).kind) (and_parts (nat_lt 0 from) (not (is_delete (update_at us (from - 1)).kind)) h).1
-  where
-    undeleted : (b : Bool) → not b ≡ true → b ≡ false
-    undeleted true e = cc
-    undeleted false e = refl
+kept_before us from h = not-true (is_delete (update_at us (from - 1)).kind) (and_parts (nat_lt 0 from) (not (is_delete (update_at us (from - 1)).kind)) h).1
 
 -- ---- the events that are told
 

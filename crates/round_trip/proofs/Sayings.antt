@@ -18,7 +18,7 @@ use Rattle.graph_model.specs.Refusal.{Name, Outside, RecordRefusal, Text as NoTe
 use Rattle.graph_model.specs.Said.{OfAddition, OfBounds, OfDeletion, OfType, OfUpdate, RecordKind, Said, SaysBounds, SaysEvent, SaysType, addition_of, are_order_digits, are_texts, bounds_from, deletion_of, edge_of, event_at, event_of, field_of, is_at_sign, kind_of, moment_inside, moment_of, moment_with, names_edge, order_of, properties_in, props_from, row_of, said_as, said_by, type_said, update_of, with_props}
 use Rattle.graph_model.specs.TextForm.{is_name}
 use Rattle.graph_model.specs.WholeNumber.{number_of, whole_of}
-use Rattle.graph_model.proofs.PropItems.{KeysRise-put}
+use Rattle.graph_model.proofs.PropItems.{KeysRise-put, length-put_prop}
 use Rattle.property_values.proofs.Fields.{WritesProperty-from_read}
 use Rattle.event_rows.specs.Gathering.{gathered, on_some, put_field, put_read}
 use Rattle.event_rows.specs.Sayable.{AreSayableProps, IsSayable, IsSayableProp, IsSayableType, IsSayableWhat, are_bounds}
@@ -42,10 +42,6 @@ pub each-put : (P : List ℕ × Value → Type 0) (p : List ℕ × Value) (qs : 
 each-put P p [] h k = (h, tt)
 each-put P p (q ∷ qs) h k = cond_both (is_lt (name_cmp p.0 q.0)) (p ∷ q ∷ qs) (q ∷ put_prop p qs) (AllByRecursion P) (λ e. (h, k)) (λ e. (k.0, each-put P p qs h k.1))
 
-length-put : (p : List ℕ × Value) (qs : List (List ℕ × Value)) → length (put_prop p qs) ≡ suc (length qs)
-length-put p [] = refl
-length-put p (q ∷ qs) = cond_both (is_lt (name_cmp p.0 q.0)) (p ∷ q ∷ qs) (q ∷ put_prop p qs) (λ rs. length rs ≡ suc (suc (length qs))) (λ e. refl) (λ e. ap suc (length-put p qs))
-
 -- one property more
 put-sayable : (props more : List (List ℕ × Value)) (field : List ℕ) → AreSayableProps props → put_field props field ≡ Some more → AreSayableProps more
 put-sayable props more field h put = by (property_of field) refl put
@@ -55,7 +51,7 @@ put-sayable props more field h put = by (property_of field) refl put
     room p is false true has full e = cc e
     room p is false false has full e =
         let same : put_prop p props ≡ more = cc e in
-        let size = length-put p props in
+        let size = length-put_prop p props in
         let few : length (put_prop p props) ≤ 256 = grind (arith, nat_tests) in
         subst AreSayableProps same (KeysRise-put p props has h.0, few, each-put IsSayableProp p props (property-sayable field p is) h.2)
 

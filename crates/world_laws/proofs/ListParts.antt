@@ -1,5 +1,5 @@
 -- What holds of each item of a list, of its parts, and of what is looked for in it.
-use Rattle.std.proofs.Common.{◌≡◌, Bool, true, false, List, [], ◌∷◌, ◌++◌, cond, None, Some, refl, sym, ◌∙◌}
+use Rattle.std.proofs.Common.{◌≡◌, ℕ, zero, suc, take, drop, Bool, true, false, List, [], ◌∷◌, ◌++◌, cond, None, Some, refl, sym, ◌∙◌}
 use Rattle.std.specs.List.{AllByRecursion, filter, find}
 use Rattle.std.proofs.lemmas.Bool.{true≢false}
 
@@ -13,6 +13,16 @@ each_rest P (u ∷ us) vs h = each_rest P us vs h.1
 
 pub each_middle : {X : Type 0} (P : X → Type 0) (us : List X) (v : X) (vs : List X) → AllByRecursion P (us ++ v ∷ vs) → P v
 each_middle P us v vs h = (each_rest P us (v ∷ vs) h).0
+
+pub each_take : {X : Type 0} (P : X → Type 0) (n : ℕ) (xs : List X) → AllByRecursion P xs → AllByRecursion P (take n xs)
+each_take P zero xs h = tt
+each_take P (suc n) [] h = tt
+each_take P (suc n) (x ∷ xs) h = (h.0, each_take P n xs h.1)
+
+pub each_drop : {X : Type 0} (P : X → Type 0) (n : ℕ) (xs : List X) → AllByRecursion P xs → AllByRecursion P (drop n xs)
+each_drop P zero xs h = h
+each_drop P (suc n) [] h = tt
+each_drop P (suc n) (x ∷ xs) h = each_drop P n xs h.1
 
 -- what holds of the items that a filter keeps
 pub each_where : {X : Type 0} (P : X → Type 0) (t : X → Bool) (xs : List X) → AllByRecursion P (filter t xs) → AllByRecursion (λ x. t x ≡ true → P x) xs
