@@ -332,7 +332,7 @@ fn played<L: Ledger>(
     }
 }
 
-// One function has the store, since each that has one is proved to give it back, which takes long.
+// The store is given back by a call of its own, since a function that does so itself is proved slowly.
 fn in_new_store<L: Ledger>(
     rt: &impl Abort,
     alloc: Global,
@@ -341,7 +341,9 @@ fn in_new_store<L: Ledger>(
     steps: &mut Steps<L>,
 ) -> Result<(), Fail> {
     let mut store = Store::new(alloc, model, Bounds::whole());
-    played(rt, alloc, case, &mut store, steps)
+    let outcome = played(rt, alloc, case, &mut store, steps);
+    drop(store);
+    outcome
 }
 
 fn all_rows<L: Ledger>(rt: &impl Abort, alloc: Global, blank: Blank) -> Result<(), Fail>

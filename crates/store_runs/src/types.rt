@@ -57,5 +57,7 @@ fn kept_types(rt: &impl Abort, alloc: Global, store: &mut Store) -> Result<(), F
 #[test]
 fn a_node_keeps_the_type_that_it_was_given_first(rt: HostRuntime) -> Result<(), Fail> {
     let mut store = Store::new(rt.alloc(), Model::Event, Bounds::whole());
-    kept_types(&rt, rt.alloc(), &mut store)
+    let outcome = kept_types(&rt, rt.alloc(), &mut store);
+    drop(store);
+    outcome
 }

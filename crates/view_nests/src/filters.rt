@@ -109,7 +109,9 @@ fn filters_of_a_store<L: Ledger>(rt: &impl Abort, alloc: Global, blank: Blank) -
 {
     let mut steps = Steps::<L>::new(blank);
     let mut store = Store::new(alloc, Model::Persistent, Bounds::whole());
-    filtering(rt, alloc, &mut store, &mut steps)
+    let outcome = filtering(rt, alloc, &mut store, &mut steps);
+    drop(store);
+    outcome
 }
 
 #[test]

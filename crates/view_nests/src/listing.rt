@@ -262,7 +262,9 @@ fn lists_of_a_store<L: Ledger>(rt: &impl Abort, alloc: Global, blank: Blank) -> 
 {
     let mut steps = Steps::<L>::new(blank);
     let mut store = Store::new(alloc, Model::Persistent, Bounds::whole());
-    listing(rt, alloc, &mut store, &mut steps)
+    let outcome = listing(rt, alloc, &mut store, &mut steps);
+    drop(store);
+    outcome
 }
 
 fn degrees_of_a_store<L: Ledger>(rt: &impl Abort, alloc: Global, blank: Blank) -> Result<(), Fail>
@@ -272,7 +274,9 @@ fn degrees_of_a_store<L: Ledger>(rt: &impl Abort, alloc: Global, blank: Blank) -
 {
     let mut steps = Steps::<L>::new(blank);
     let mut store = Store::new(alloc, Model::Event, Bounds::whole());
-    counting(rt, alloc, &mut store, &mut steps)
+    let outcome = counting(rt, alloc, &mut store, &mut steps);
+    drop(store);
+    outcome
 }
 
 #[test]

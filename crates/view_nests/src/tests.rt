@@ -243,7 +243,9 @@ fn nests_of_two_layers<L: Ledger>(rt: &impl Abort, alloc: Global, blank: Blank) 
 {
     let mut steps = Steps::<L>::new(blank);
     let mut store = Store::new(alloc, Model::Event, Bounds::whole());
-    nests(rt, alloc, &mut store, &mut steps)
+    let outcome = nests(rt, alloc, &mut store, &mut steps);
+    drop(store);
+    outcome
 }
 
 fn windows_of_a_deleted_edge<L: Ledger>(
@@ -257,7 +259,9 @@ fn windows_of_a_deleted_edge<L: Ledger>(
 {
     let mut steps = Steps::<L>::new(blank);
     let mut store = Store::new(alloc, Model::Persistent, Bounds::whole());
-    deletions(rt, alloc, &mut store, &mut steps)
+    let outcome = deletions(rt, alloc, &mut store, &mut steps);
+    drop(store);
+    outcome
 }
 
 #[test]
