@@ -14,3 +14,4 @@ pub mod Selected
 pub mod Drawn
 pub mod ReadyWorlds
 pub mod OneProof
+pub mod Covered

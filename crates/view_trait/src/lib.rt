@@ -8,6 +8,8 @@ mod numbers;
 mod presence;
 mod ready_ops;
 mod ready_views;
+mod roster_laws;
+mod rosters;
 mod view;
 
 pub use extent_of_view::{WorldExtent, extent};
@@ -17,4 +19,8 @@ pub use numbers::{NodeList, has_layer, has_node, has_nodes, nothing};
 pub use presence::{edge_present, node_present, pair_present};
 pub use ready_ops::{ReadyOp, ReadyOps};
 pub use ready_views::ready;
+pub use roster_laws::{
+    keeping_views_are_covered, whole_roster_covers_each_world, windows_are_covered,
+};
+pub use rosters::{EdgeList, Roster};
 pub use view::View;
