@@ -30,8 +30,8 @@ use Rattle.graph_store.proofs.EdgeNames.{each_from}
 use Rattle.graph_store.proofs.Listed.{one_place, list_any-place}
 use Rattle.view_trait.specs.Meaning.{IsShown, edge_named}
 use Rattle.view_trait.proofs.Pairs.{present_number, same_number}
-use Rattle.walk_algorithms.proofs.Keyed.{any_same_kept}
-use Rattle.walk_algorithms.proofs.Numbers.{any_map, distinct_filter, distinct_map}
+use Rattle.present_links.proofs.Keyed.{any_same_kept}
+use Rattle.present_links.proofs.Numbers.{any_map, distinct_filter, distinct_map}
 use Rattle.view_answers.specs.Edges.{edge_names}
 
 -- ---- the names of all edges

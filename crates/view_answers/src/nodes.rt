@@ -18,7 +18,7 @@ use graph_store::Store;
 use std::alloc::Global;
 use std::sync::ledger::Ledger;
 use time_column::Steps;
-use view_trait::{View, extent};
+use view_trait::{Roster, View, extent};
 use walk_algorithms::{DegreeRows, degrees};
 
 /// Adds the part of a world with these bounds whose answer has the names of some nodes.
@@ -66,7 +66,7 @@ pub fn add_nodes<V: View, L: Ledger>(
     ensures rows { OnOk result (out.new ≡ out.old ++ rows_text (part_rows (V.world view.now) (map Named (nodes (V.world view.now))))) }
     ensures cost { (V.world view.now).model ≡ Instants → IsWithin steps.old steps.new (length (V.contents view.now).nodes * (V.searches view.now).nodes + length (V.contents view.now).edges * (V.searches view.now).edges) (length (V.contents view.now).accepted) }
 {
-    let rows = degrees(alloc, view, steps)?;
+    let rows = degrees(alloc, view, Roster::All, steps)?;
     add_names(out, view.bounds(), view.store(), &rows)
 }
 
@@ -80,7 +80,7 @@ pub fn add_node_degrees<V: View, L: Ledger>(
     ensures rows { OnOk result (out.new ≡ out.old ++ rows_text (part_rows (V.world view.now) (map (degree_row (V.world view.now)) (nodes (V.world view.now))))) }
     ensures cost { (V.world view.now).model ≡ Instants → IsWithin steps.old steps.new (length (V.contents view.now).nodes * (V.searches view.now).nodes + length (V.contents view.now).edges * (V.searches view.now).edges) (length (V.contents view.now).accepted) }
 {
-    let rows = degrees(alloc, view, steps)?;
+    let rows = degrees(alloc, view, Roster::All, steps)?;
     add_degrees(out, view.bounds(), view.store(), &rows)
 }
 

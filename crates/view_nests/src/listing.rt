@@ -14,7 +14,7 @@ use std::process::Abort;
 use std::sync::ledger::{Blank, Ledger};
 use std::test::Fail;
 use time_column::Steps;
-use view_trait::View;
+use view_trait::{Roster, View};
 use walk_algorithms::{DegreeRows, degrees};
 use window_view::window;
 use world_copies::{into_store, list_types, list_world};
@@ -250,7 +250,7 @@ fn counting<L: Ledger>(
 ) -> Result<(), Fail> {
     assert!(rt; put_records(alloc, store, EDGES.as_slice(), steps)?);
     let graph = EventGraph::over(store).ok_or("the store is of the event model")?;
-    let rows = degrees(alloc, &graph, steps)?;
+    let rows = degrees(alloc, &graph, Roster::All, steps)?;
     degrees_are(rt, &rows, [(0, 2, 2), (1, 1, 2), (2, 0, 2)].as_slice());
     Ok(())
 }

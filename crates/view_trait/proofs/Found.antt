@@ -1,8 +1,8 @@
 -- What a call finds for an entity of a view: the model, the bounds, the updates, and the span that the view shows.
-use Rattle.std.proofs.Common.{◌≡◌, ℕ, ◌-◌, ◌≤◌, true, false, List, [], ◌∷◌, Option, Some, None, length, refl, sym, ◌∙◌, ap, subst, arith}
+use Rattle.std.proofs.Common.{◌≡◌, ℕ, ◌-◌, ◌≤◌, Bool, true, false, ◌||◌, List, [], ◌∷◌, cond, Option, Some, None, length, refl, sym, ◌∙◌, ap, subst, arith}
 use Rattle.std.specs.Prelude.{is_some}
 use Rattle.std.specs.Option.{option_map}
-use Rattle.std.specs.List.{last_or}
+use Rattle.std.specs.List.{filter, last_or, list_any}
 use Rattle.std.proofs.lemmas.Bool.{true≢false}
 use Rattle.std.proofs.lemmas.List.{length-map}
 use Rattle.graph_model.specs.declared.events.Entity.{Entity}
@@ -96,3 +96,12 @@ last_some (x ∷ xs) h e = cc
 pub last_none : {A : Type 0} (xs : List A) → is_some (last_or None xs) ≡ false → xs ≡ []
 last_none [] h = refl
 last_none (x ∷ xs) h = absurd (true≢false (sym (some_last x xs) ∙ h))
+
+-- some item passes a test where those that pass have a last one
+pub any_last : {A : Type 0} (p : A → Bool) (xs : List A) → list_any p xs ≡ is_some (last_or None (filter p xs))
+any_last p [] = refl
+any_last p (x ∷ xs) = by (p x) (any_last p xs)
+  where
+    by : (t : Bool) → list_any p xs ≡ is_some (last_or None (filter p xs)) → (t || list_any p xs) ≡ is_some (last_or None (cond t (x ∷ filter p xs) (filter p xs)))
+    by true h = sym (some_last x (filter p xs))
+    by false h = h

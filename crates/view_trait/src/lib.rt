@@ -16,7 +16,7 @@ pub use extent_of_view::{WorldExtent, extent};
 pub use facts::store_facts;
 pub use neighbour_walk::{NeighbourWalk, neighbours};
 pub use numbers::{NodeList, has_layer, has_node, has_nodes, nothing};
-pub use presence::{edge_present, node_present, pair_present};
+pub use presence::{edge_present, has_event, node_present, pair_present};
 pub use ready_ops::{ReadyOp, ReadyOps};
 pub use ready_views::ready;
 pub use roster_laws::{

@@ -1,9 +1,9 @@
 //! What a view shows as present.
-ghost use Rattle.std.specs.Prelude.{◌≡◌, ◌<◌, ◌||◌, ◌*◌, length, None, is_some};
-ghost use Rattle.std.specs.List.{AllByRecursion, last_or};
+ghost use Rattle.std.specs.Prelude.{◌≡◌, ◌<◌, ◌||◌, length};
+ghost use Rattle.std.specs.List.{AllByRecursion, list_any};
+ghost use Rattle.graph_model.specs.Entity.{is_about};
 ghost use Rattle.graph_model.specs.declared.events.Model.TheVariants.{Event as Instants};
 ghost use Rattle.graph_model.specs.Presence.{edge_present as is_edge_present, node_present as is_node_present};
-ghost use Rattle.graph_model.specs.World.{events_of};
 ghost use Rattle.graph_store.specs.Paired.{pairs_from, pairs_to};
 ghost use Rattle.graph_store.specs.Contents.{name_at};
 ghost use Rattle.view_trait.specs.Meaning.{IsWithin, node_at, edge_named};
@@ -67,10 +67,11 @@ fn has_present_pair<V: View, L: Ledger>(view: &V, n: NodeId, steps: &mut Steps<L
         || any_pair_present(view, store.in_pairs(n), steps)
 }
 
-/// Whether a node has an event of its own.
-fn has_event<V: View, L: Ledger>(view: &V, n: NodeId, steps: &mut Steps<L>) -> bool
+/// Whether a node has an event of its own. Its span is asked once.
+pub fn has_event<V: View, L: Ledger>(view: &V, n: NodeId, steps: &mut Steps<L>) -> bool
     requires { n.0 < length (V.contents view.now).nodes }
-    ensures { result ≡ is_some (last_or None (events_of (V.world view.now) (node_at (V.contents view.now) n.0))) }
+    ensures event { result ≡ list_any (is_about (node_at (V.contents view.now) n.0)) (V.world view.now).events }
+    ensures cost { IsWithin steps.old steps.new (V.searches view.now).nodes (length (V.contents view.now).accepted) }
 {
     let store = view.store();
     let span = view.node_span(n, steps);

@@ -10,16 +10,17 @@ use Rattle.world_laws.proofs.Counts.{length_filter_le}
 use Rattle.world_laws.proofs.Filters.{filter_both}
 use Rattle.graph_store.specs.declared.pairs.Ends.{Ends}
 use Rattle.graph_store.specs.Ends.{ends_at}
-use Rattle.walk_algorithms.specs.declared.links.Link.{Link}
+use Rattle.present_links.specs.declared.link_list.Link.{Link}
 use Rattle.walk_algorithms.specs.declared.ways.Ways.{Ways}
-use Rattle.walk_algorithms.specs.Links.{links_from, links_to, leads_back, alone_among}
+use Rattle.present_links.specs.Links.{links_from, links_to, leads_back, alone_among}
 use Rattle.walk_algorithms.specs.Counted.{AreFew, AreWays, IsCounted, IsJoined, between, joined, plus, ways_of}
-use Rattle.walk_algorithms.specs.Paired.{ends_in, link_ends, next_back, turned, ArePaired, NoneFar}
+use Rattle.present_links.specs.Links.{ends_in, link_ends}
+use Rattle.walk_algorithms.specs.Paired.{next_back, turned, ArePaired, NoneFar}
 use Rattle.walk_algorithms.proofs.Paired.{back_here, back_next, cut_one, cut_two, link_at, next_apart, next_is, NoneCut}
 
 -- no link is counted before the first
 pub counted_none : (links : List Ends) → IsCounted links (take 0 links) []
-counted_none links = record { ways = λ n. record { ins = refl; outs = refl; alone = refl }; sparse = λ n. refl }
+counted_none links n = record { ins = refl; outs = refl; alone = refl }
 
 -- one where a test passes
 abbrev one_if : Bool → ℕ
@@ -108,7 +109,7 @@ module _ (links : List Ends) (h : ArePaired links) (i : ℕ) (below : i < length
     -- the ways of a node after a link is counted with its way back
     ways_more : (n : ℕ) → AreWays links (take (next_place links i) links) n (joined here.src here.dst true back n (ways_of before n))
     ways_more n =
-        let was = counted.ways n in
+        let was = counted n in
         let m =
         more_ways (here.src == n) (here.dst == n) (next_back links i) back (ways_of before n) (length (links_to (take i links) n)) (length (links_from (take i links) n)) (length (alone_among links (take i links) n)) (length (links_to (take (next_place links i) links) n)) (length (links_from (take (next_place links i) links) n)) (length (alone_among links (take (next_place links i) links) n))
         loop one was.ins was.outs was.alone
@@ -152,10 +153,8 @@ module _ (links : List Ends) (h : ArePaired links) (i : ℕ) (below : i < length
 
     -- so some more links are counted
     counted_more : (src dst : ℕ) → src ≡ here.src → dst ≡ here.dst → (t : Bool) → t ≡ back → (after : List (ℕ × Ways)) → IsJoined src dst true t before after → IsCounted links (take (next_place links i) links) after
-    counted_more src dst is_src is_dst t is_back after j = record {
-      ways = λ n. subst (AreWays links (take (next_place links i) links) n) (sym (j.ways n ∙ (λ k. joined (is_src k) (is_dst k) true (is_back k) n (ways_of before n)))) (ways_more n);
-      sparse = j.sparse counted.sparse;
-    }
+    counted_more src dst is_src is_dst t is_back after j n =
+        subst (AreWays links (take (next_place links i) links) n) (sym (j n ∙ (λ k. joined (is_src k) (is_dst k) true (is_back k) n (ways_of before n)))) (ways_more n)
 
     -- ways by few links are few
     few_more : length links < 2 ^ 32 → (n : ℕ) (ways : Ways) → joined here.src here.dst true back n (ways_of before n) ≡ ways → AreFew ways

@@ -1,12 +1,4 @@
-pub mod Numbers
-pub mod Neighbours
-pub mod Base
-pub mod Sorted
-pub mod Keyed
 pub mod Listing
 pub mod Paired
-pub mod Spent
 pub mod Counted
 pub mod Rows
-pub mod Shown
-pub mod Views

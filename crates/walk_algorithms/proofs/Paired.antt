@@ -15,11 +15,12 @@ use Rattle.graph_store.specs.declared.pairs.Ends.{Ends}
 use Rattle.graph_store.specs.Ends.{ends_at, same_ends}
 use Rattle.graph_store.proofs.LinkLaws.{same_ends-equal, same_ends-own}
 use Rattle.graph_store.proofs.Listed.{list_any-place}
-use Rattle.walk_algorithms.specs.declared.links.Link.{Link}
+use Rattle.present_links.specs.declared.link_list.Link.{Link}
 use Rattle.walk_algorithms.specs.declared.ways.Ways.{Ways}
-use Rattle.walk_algorithms.specs.Links.{alone_among, leads_back}
+use Rattle.present_links.specs.Links.{alone_among, leads_back}
 use Rattle.walk_algorithms.specs.Counted.{IsCounted}
-use Rattle.walk_algorithms.specs.Paired.{both_ends, ends_in, link_ends, next_back, turned, ArePaired, NoneFar}
+use Rattle.present_links.specs.Links.{ends_in, link_ends}
+use Rattle.walk_algorithms.specs.Paired.{both_ends, next_back, turned, ArePaired, NoneFar}
 
 -- ---- links in another order
 
@@ -29,14 +30,12 @@ passing_permuted p xs ys moved = length-filter p ys ∙ (sum_by-IsPermutation (�
 
 -- the ways of nodes do not depend on the order of the links
 pub counted_permuted : (xs ys : List Ends) (table : List (ℕ × Ways)) → IsPermutation xs ys → IsCounted ys ys table → IsCounted xs xs table
-counted_permuted xs ys table moved h = record {
-  ways = λ n. let was = h.ways n in record {
-    ins = was.ins ∙ passing_permuted (λ (p : Ends). p.dst == n) xs ys moved;
-    outs = was.outs ∙ passing_permuted (λ (p : Ends). p.src == n) xs ys moved;
-    alone = was.alone ∙ alone n;
-  };
-  sparse = h.sparse;
-}
+counted_permuted xs ys table moved h n =
+    let was = h n in record {
+      ins = was.ins ∙ passing_permuted (λ (p : Ends). p.dst == n) xs ys moved;
+      outs = was.outs ∙ passing_permuted (λ (p : Ends). p.src == n) xs ys moved;
+      alone = was.alone ∙ alone n;
+    }
   where
     -- a link has a way back in the one order where it has one in the other
     back : (p : Ends) → leads_back ys p ≡ leads_back xs p

@@ -1,23 +1,13 @@
--- The row of a node by its ways, and whether it has any.
-use Rattle.std.proofs.Common.{◌≡◌, ℕ, ◌+◌, ◌<◌, ◌≤◌, ◌||◌, List, length, sym, ◌∙◌, ap, arith}
-use Rattle.std.specs.Prelude.{◌==◌, nat_lt}
-use Rattle.std.specs.List.{list_any}
+-- The row of a node by its ways.
+use Rattle.std.proofs.Common.{◌≡◌, ℕ, ◌+◌, ◌<◌, ◌≤◌, List, length, sym, ◌∙◌, arith}
 use Rattle.graph_model.specs.Answer.{Degrees, degree_row}
 use Rattle.graph_model.specs.World.{World}
 use Rattle.graph_store.specs.declared.pairs.Ends.{Ends}
 use Rattle.graph_store.specs.Contents.{name_at}
 use Rattle.walk_algorithms.specs.declared.ways.Ways.{Ways}
-use Rattle.walk_algorithms.specs.Links.{HasLinks, is_end}
-use Rattle.walk_algorithms.specs.Counted.{AreWays, has_way}
-use Rattle.walk_algorithms.proofs.Keyed.{any_counted}
-use Rattle.walk_algorithms.proofs.Neighbours.{count_both, count_in, count_out, few_neighbours}
-
--- a node has a way where a link begins or ends there
-pub way_is_end : (links : List Ends) (n : ℕ) (ways : Ways) → AreWays links links n ways → has_way ways ≡ is_end links n
-way_is_end links n ways is =
-    let outs : nat_lt 0 ways.outs ≡ list_any (λ (p : Ends). p.src == n) links = ap (nat_lt 0) is.outs ∙ sym (any_counted (λ (p : Ends). p.src == n) links) in
-    let ins : nat_lt 0 ways.ins ≡ list_any (λ (p : Ends). p.dst == n) links = ap (nat_lt 0) is.ins ∙ sym (any_counted (λ (p : Ends). p.dst == n) links) in
-    λ i. outs i || ins i
+use Rattle.present_links.specs.Links.{HasLinks}
+use Rattle.walk_algorithms.specs.Counted.{AreWays}
+use Rattle.present_links.proofs.Neighbours.{count_both, count_in, count_out, few_neighbours}
 
 module _ (w : World) (names : List (List ℕ)) (links : List Ends) (h : HasLinks w names links) (n : ℕ) (exists : n < length names) (ways : Ways) (is : AreWays links links n ways) where
   -- the degrees of a node are its ways inwards and outwards, and those outwards with those that have no way back

@@ -1,4 +1,3 @@
-pub mod Links
 pub mod Counted
 pub mod Paired
 pub mod Degrees

@@ -1,22 +1,26 @@
 //! The degrees of the nodes of a view.
-ghost use Rattle.std.specs.Prelude.{◌≡◌, ◌<◌, ◌+◌, ◌*◌, Some, length, map, slice_get, IfOk};
+ghost use Rattle.std.specs.Prelude.{◌≡◌, ◌<◌, ◌+◌, ◌*◌, ℕ, Some, length, map, slice_get, IfOk};
 ghost use Rattle.std.specs.List.{All};
 ghost use Rattle.graph_model.specs.declared.events.Model.TheVariants.{Event as Instants};
 ghost use Rattle.graph_model.specs.Answer.{degree_row};
 ghost use Rattle.graph_model.specs.Presence.{nodes};
+ghost use Rattle.graph_store.specs.Contents.{name_at};
+ghost use Rattle.view_trait.specs.Covered.{Covers, edge_count, node_count};
 ghost use Rattle.view_trait.specs.Meaning.{IsWithin};
-ghost use Rattle.walk_algorithms.specs.Links.{links_of};
-ghost use Rattle.walk_algorithms.specs.Degrees.{degree_row_of, IsNamed};
+ghost use Rattle.present_links.specs.Links.{rising_links};
+ghost use Rattle.walk_algorithms.specs.Counted.{AreWays, IsCounted};
+ghost use Rattle.walk_algorithms.specs.Degrees.{degree_row_of};
 
 use crate::link_ways::link_ways;
-use crate::present_nodes::{Named, sorted_nodes};
+use crate::ways::{WayTable, Ways};
 use graph_model::Memory;
 use graph_store::NodeId;
+use present_links::{NodeRows, links, present_nodes};
 use std::alloc::Global;
 use std::marker::Model;
 use std::sync::ledger::Ledger;
 use time_column::Steps;
-use view_trait::View;
+use view_trait::{Roster, View};
 
 /// How many neighbours of a node lead to it, how many it leads to, and how many do either. A node
 /// that leads to itself is its own neighbour, and counts once each way and once in all.
@@ -60,47 +64,70 @@ impl DegreeRows {
     }
 }
 
-/// The degrees of a named node.
-fn degree_of<V: View>(view: &V, x: Named<'_>) -> Degree
-    requires { IsNamed (V.contents view.now) (links_of (V.contents view.now) (V.world view.now)) x }
-    ensures node { result.node ≡ x.entry.node }
-    ensures row { degree_row_of (V.contents view.now) result ≡ degree_row (V.world view.now) x.entry.name.now }
+/// The degrees of a node, by its ways.
+fn degree_of<V: View>(view: &V, node: NodeId, ways: Ways) -> Degree
+    requires within { node.0 < length (V.contents view.now).nodes }
+    requires ways { let links = rising_links (V.contents view.now) (V.world view.now) in
+        AreWays links links node.0 ways }
+    ensures node { result.node ≡ node }
+    ensures row { let c = V.contents view.now in
+        degree_row_of c result ≡ degree_row (V.world view.now) (name_at c.nodes node.0) }
 {
     let _few = view.store().nodes();
     Degree {
-        node: x.node,
-        ins: x.ways.ins,
-        outs: x.ways.outs,
-        both: x.ways.outs + x.ways.alone,
+        node,
+        ins: ways.ins,
+        outs: ways.outs,
+        both: ways.outs + ways.alone,
     }
 }
 
-/// The degrees of named nodes, in their order.
-fn degrees_of<V: View>(alloc: Global, view: &V, named: &[Named<'_>]) -> Result<DegreeRows, Memory>
-    requires { All (IsNamed (V.contents view.now) (links_of (V.contents view.now) (V.world view.now))) named.now }
-    ensures rows { IfOk result (λ rows. map (degree_row_of (V.contents view.now)) rows ≡ map (degree_row (V.world view.now)) (map (λ x. x.name.now) named.now)) }
+/// The degrees of nodes, by the ways of all.
+fn degrees_of<V: View>(
+    alloc: Global,
+    view: &V,
+    nodes: &NodeRows,
+    ways: &WayTable,
+) -> Result<DegreeRows, Memory>
+    requires known { All (λ n. n < length (V.contents view.now).nodes) nodes.now }
+    requires ways { let links = rising_links (V.contents view.now) (V.world view.now) in
+        IsCounted links links ways.now }
+    ensures rows { let c = V.contents view.now in
+        let rows_of = λ (n : ℕ). degree_row (V.world view.now) (name_at c.nodes n) in
+        IfOk result (λ rows. map (degree_row_of c) rows ≡ map rows_of nodes.now) }
     ensures known { IfOk result (λ rows. All (λ d. d.node.0 < length (V.contents view.now).nodes) rows) }
 {
-    let mut rows = Vec::with_capacity(alloc, named.len())?;
-    for x in named {
-        rows.push(degree_of(view, *x))?;
+    let mut rows = Vec::with_capacity(alloc, nodes.len())?;
+    for i in 0..nodes.len() {
+        let node = nodes.item(i);
+        rows.push(degree_of(view, node, ways.of(node)))?;
     }
     Ok(DegreeRows { rows })
 }
 
 /// The degrees of the present nodes, rising by the bytes of their names. The span of each node and of
-/// each edge is asked once at most. It takes memory for the links that the view shows, 8 bytes each, and
-/// for the present nodes, and none for the other pairs, nodes and edges of the store.
+/// each edge on the roster is asked once at most, and the degrees are the same for every roster that
+/// covers the view. It takes memory for the links that the view shows and for the present nodes, and
+/// none for the other pairs, nodes and edges of the store.
 pub fn degrees<V: View, L: Ledger>(
     alloc: Global,
     view: &V,
+    roster: Roster<'_>,
     steps: &mut Steps<L>,
 ) -> Result<DegreeRows, Memory>
-    ensures rows { IfOk result (λ rows. map (degree_row_of (V.contents view.now)) rows ≡ map (degree_row (V.world view.now)) (nodes (V.world view.now))) }
+    requires covers { Covers (V.contents view.now) (V.world view.now) roster }
+    ensures rows { let w = V.world view.now in
+        IfOk result (λ rows. map (degree_row_of (V.contents view.now)) rows ≡ map (degree_row w) (nodes w)) }
     ensures known { IfOk result (λ rows. All (λ d. d.node.0 < length (V.contents view.now).nodes) rows) }
-    ensures cost { (V.world view.now).model ≡ Instants → IsWithin steps.old steps.new (length (V.contents view.now).nodes * (V.searches view.now).nodes + length (V.contents view.now).edges * (V.searches view.now).edges) (length (V.contents view.now).accepted) }
+    ensures cost { let c = V.contents view.now in
+        let of_nodes = node_count c roster.entry * (V.searches view.now).nodes in
+        let of_edges = edge_count c roster.entry * (V.searches view.now).edges in
+        (V.world view.now).model ≡ Instants
+        → IsWithin steps.old steps.new (of_nodes + of_edges) (length c.accepted) }
 {
-    let ways = link_ways(alloc, view, steps)?;
-    let named = sorted_nodes(alloc, view, &ways, steps)?;
-    degrees_of(alloc, view, named.as_slice())
+    let links = links(alloc, view, roster, steps)?;
+    let nodes = present_nodes(alloc, view, &links, roster, steps)?;
+    let _few = view.store().pairs();
+    let ways = link_ways(alloc, links)?;
+    degrees_of(alloc, view, &nodes, &ways)
 }

@@ -1,6 +1,6 @@
 //! How many links begin and end at each node.
 ghost use Rattle.std.specs.Prelude.{◌≡◌, ℕ, ◌^◌, ◌<◌, ◌+◌, [], OnOk};
-ghost use Rattle.walk_algorithms.specs.Counted.{ways_of, plus, between, has_way, Puts, AreFew, IsJoined};
+ghost use Rattle.walk_algorithms.specs.Counted.{ways_of, plus, between, Puts, AreFew, IsJoined};
 
 use graph_model::Memory;
 use graph_store::NodeId;
@@ -40,13 +40,6 @@ impl Ways {
             outs: self.outs + more.outs,
             alone: self.alone + more.alone,
         }
-    }
-
-    /// Whether a link begins or ends at the node.
-    pub fn any(self) -> bool
-        ensures { result ≡ has_way self }
-    {
-        self.outs > 0 || self.ins > 0
     }
 }
 

@@ -1,6 +1,6 @@
 use Rattle.std.proofs.Common.{◌<◌, arith, length, map, subst}
 use Rattle.graph_store.specs.Contents.{Contents}
-use Rattle.walk_algorithms.proofs.Spent.{spent_more}
+use Rattle.present_links.proofs.Spent.{spent_more}
 use Rattle.view_answers.specs.Edges.{edge_told}
 use Rattle.view_answers.proofs.EdgeList.{listed_more}
 use Rattle.view_answers.proofs.edges.listed_edges.Goals as goal

@@ -1,6 +1,6 @@
 use Rattle.std.proofs.Common.{arith, inl, inr, subst, sym}
 use Rattle.walk_algorithms.specs.Counted.{IsCounted}
-use Rattle.walk_algorithms.specs.Paired.{ends_in}
+use Rattle.present_links.specs.Links.{ends_in}
 use Rattle.walk_algorithms.proofs.Counted.{counted_all, counted_none, dst_few, src_few, step_counted}
 use Rattle.walk_algorithms.proofs.link_ways.count_links.Goals.{then-paired, else-paired, then-paired-2, else-paired-2}
 use Rattle.walk_algorithms.proofs.link_ways.count_links.Goals as goal

@@ -1,6 +1,6 @@
 use Rattle.std.proofs.Common.{◌-◌, length, take}
 use Rattle.walk_algorithms.specs.Counted.{IsCounted}
-use Rattle.walk_algorithms.specs.Paired.{ends_in}
+use Rattle.present_links.specs.Links.{ends_in}
 use Rattle.walk_algorithms.proofs.Paired.{NoneCut}
 use Rattle.walk_algorithms.proofs.link_ways.count_links.Given as goal
 

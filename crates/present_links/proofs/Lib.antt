@@ -1,0 +1,12 @@
+pub mod Numbers
+pub mod Neighbours
+pub mod Base
+pub mod Sorted
+pub mod Keyed
+pub mod Settled
+pub mod Spent
+pub mod Order
+pub mod Shown
+pub mod Views
+pub mod Listed
+pub mod Present

@@ -1,0 +1,60 @@
+//! Laws of links. The functions do nothing: their contracts are the laws.
+ghost use Rattle.std.specs.Prelude.{◌≡◌, ◌<◌, ◌+◌, ◌++◌, ℕ, Bool, List, length};
+ghost use Rattle.graph_model.specs.Names.{name_cmp};
+ghost use Rattle.graph_model.specs.Neighbours.{neighbours};
+ghost use Rattle.graph_model.specs.Rising.{rising};
+ghost use Rattle.graph_model.specs.World.{IsLawful, World};
+ghost use Rattle.graph_model.specs.declared.events.Model.TheVariants.{Event as Instants};
+ghost use Rattle.graph_model.specs.declared.queries.Direction.TheVariants.{Both, Inward, Outward};
+ghost use Rattle.graph_store.specs.Contents.{Contents, base_of, name_at};
+ghost use Rattle.graph_store.specs.Indexed.{IsIndexed};
+ghost use Rattle.graph_store.specs.declared.pairs.Ends.{Ends};
+ghost use Rattle.view_trait.specs.Meaning.{IsShown};
+ghost use Rattle.present_links.specs.Links.{HasLinks, ShowsEdges, links_from, links_of, links_to, links_to_alone, names_in, names_out, rising_links, shown_links};
+
+/// Where a world shows some of a store's edges, the pairs with an edge that is shown are its links.
+pub fn shown_pairs_are_links()
+    ensures { (c : Contents) → IsIndexed c → (w : World) (shown : ℕ → Bool)
+        → ShowsEdges c w shown → HasLinks w c.nodes (shown_links shown c) }
+{}
+
+/// What a view shows has the pairs with a present edge as its links, in any order, and so has it the
+/// rising list of them.
+pub fn views_have_links()
+    ensures links { (c : Contents) (w : World) → IsShown c w → HasLinks w c.nodes (links_of c w) }
+    ensures rising { (c : Contents) (w : World) → IsShown c w → HasLinks w c.nodes (rising_links c w) }
+{}
+
+/// In the event model all pairs of a store are links of its base world.
+pub fn pairs_are_links()
+    ensures { (c : Contents) → c.model ≡ Instants → IsLawful (base_of c) → IsIndexed c
+        → HasLinks (base_of c) c.nodes c.pairs }
+{}
+
+/// The neighbours of a node are at the other ends of its links.
+pub fn neighbours_are_at_the_ends_of_links()
+    ensures outward { (w : World) (nodes : List (List ℕ)) (links : List Ends)
+        → HasLinks w nodes links → (n : ℕ) → n < length nodes
+        → neighbours w Outward (name_at nodes n) ≡ rising name_cmp (names_out nodes links n) }
+    ensures inward { (w : World) (nodes : List (List ℕ)) (links : List Ends)
+        → HasLinks w nodes links → (n : ℕ) → n < length nodes
+        → neighbours w Inward (name_at nodes n) ≡ rising name_cmp (names_in nodes links n) }
+    ensures both { (w : World) (nodes : List (List ℕ)) (links : List Ends)
+        → HasLinks w nodes links → (n : ℕ) → n < length nodes
+        → neighbours w Both (name_at nodes n) ≡ rising name_cmp (names_out nodes links n ++ names_in nodes links n) }
+{}
+
+/// A node has as many neighbours as links, each way; both ways it has as many as links from it, and
+/// links to it that have no link back.
+pub fn links_count_neighbours()
+    ensures outward { (w : World) (nodes : List (List ℕ)) (links : List Ends)
+        → HasLinks w nodes links → (n : ℕ) → n < length nodes
+        → length (neighbours w Outward (name_at nodes n)) ≡ length (links_from links n) }
+    ensures inward { (w : World) (nodes : List (List ℕ)) (links : List Ends)
+        → HasLinks w nodes links → (n : ℕ) → n < length nodes
+        → length (neighbours w Inward (name_at nodes n)) ≡ length (links_to links n) }
+    ensures both { (w : World) (nodes : List (List ℕ)) (links : List Ends)
+        → HasLinks w nodes links → (n : ℕ) → n < length nodes
+        → length (neighbours w Both (name_at nodes n)) ≡
+        length (links_from links n) + length (links_to_alone links n) }
+{}
