@@ -104,8 +104,8 @@ link_exact : (a b : Link) → ends_cmp (link_ends a) (link_ends b) ≡ Equal →
 link_exact a b e = ap {A = Ends} {B = Link} (λ p. record { src = p.src; dst = p.dst }) (ends_exact (link_ends a) (link_ends b) e)
 
 -- what a sort and then a dedup leave of links is the rising list of their ends
-pub links_settled : (xs ys zs : List Link) → IsPermutation xs ys → IsSorted (λ (a b : Link). ends_cmp (link_ends a) (link_ends b)) ys
-    → IsFiltered (DiffersFromLast (λ (a b : Link). same_ends (link_ends a) (link_ends b))) [] ys zs → ends_in zs ≡ rising ends_cmp (ends_in xs)
-links_settled xs ys zs moved sorted left =
+pub links_settled : (xs ys zs : List Link) → IsFiltered (DiffersFromLast (λ (a b : Link). same_ends (link_ends a) (link_ends b))) [] ys zs
+    → IsPermutation xs ys → IsSorted (λ (a b : Link). ends_cmp (link_ends a) (link_ends b)) ys → ends_in zs ≡ rising ends_cmp (ends_in xs)
+links_settled xs ys zs left moved sorted =
     ap ends_in (settled (λ (a b : Link). ends_cmp (link_ends a) (link_ends b)) link_total link_exact (λ (a b : Link). same_ends (link_ends a) (link_ends b)) (λ a b. ends_tied (link_ends a) (link_ends b)) xs ys zs moved sorted left)
     ∙ map_rising ends_cmp link_ends xs

@@ -1,5 +1,6 @@
 -- Links: the pairs of numbered nodes between which the present edges of a world lead.
-use Rattle.std.specs.Prelude.{ℕ, List, Bool, not, ◌&&◌, ◌||◌, ◌==◌, ◌≡◌, ◌<◌, ◌↔◌, IsTrue, length, map, nat_lt}
+use Rattle.std.specs.Prelude.{ℕ, List, Bool, not, ◌&&◌, ◌||◌, ◌==◌, ◌≡◌, ◌<◌, ◌↔◌, IsTrue}
+use Rattle.std.specs.Prelude.{length, map, nat_lt}
 use Rattle.std.specs.List.{filter, list_any, IsDistinct, AllByRecursion}
 use Rattle.std.specs.Ordering.{nat_cmp, ordering_then}
 use Rattle.std.specs.declared.cmp.Ordering.{Ordering}
@@ -37,12 +38,15 @@ alone_among all some n = filter (λ (p : Ends). not (leads_back all p)) (links_t
 abbrev pub links_to_alone : List Ends → ℕ → List Ends
 links_to_alone links n = alone_among links links n
 
--- distinct links between distinct nodes: some present edge has ends that pass a test exactly where some link has
+-- distinct links between distinct nodes: some present edge has ends that pass a test exactly
+-- where some link has
 pub record HasLinks (w : World) (nodes : List (List ℕ)) (links : List Ends) : Type 0 where
   pub names : IsDistinct same_name nodes
   pub once : IsDistinct same_ends links
   pub within : AllByRecursion (λ (p : Ends). (p.src < length nodes) × (p.dst < length nodes)) links
-  pub linked : (test : List ℕ → List ℕ → Bool) → list_any (λ (e : EdgeName). test e.src e.dst) (edges w) ≡ list_any (λ (p : Ends). test (name_at nodes p.src) (name_at nodes p.dst)) links
+  pub linked : (test : List ℕ → List ℕ → Bool)
+      → list_any (λ (e : EdgeName). test e.src e.dst) (edges w)
+      ≡ list_any (λ (p : Ends). test (name_at nodes p.src) (name_at nodes p.dst)) links
 
 -- whether some edge of a pair is shown, where a test of numbers says which edges are
 abbrev pub has_shown : (ℕ → Bool) → Contents → Ends → Bool
@@ -50,7 +54,9 @@ has_shown shown c p = list_any shown (edges_between c.edges p)
 
 -- a world shows the edges with these numbers: an edge is present exactly where it has one of them
 abbrev pub ShowsEdges : Contents → World → (ℕ → Bool) → Type 0
-ShowsEdges c w shown = (edge : EdgeName) → IsTrue (edge_present w edge) ↔ ((e : ℕ) × (e < length c.edges) × IsTrue (shown e) × (edge_name c.nodes c.layers (parts_at c.edges e) ≡ edge))
+ShowsEdges c w shown = (edge : EdgeName)
+    → IsTrue (edge_present w edge)
+    ↔ ((e : ℕ) × (e < length c.edges) × IsTrue (shown e) × (edge_name c.nodes c.layers (parts_at c.edges e) ≡ edge))
 
 -- the pairs with an edge that is shown
 abbrev pub shown_links : (ℕ → Bool) → Contents → List Ends
@@ -83,6 +89,10 @@ link_ends l = record { src = l.src; dst = l.dst }
 abbrev pub ends_in : List Link → List Ends
 ends_in links = map link_ends links
 
+-- whether two links have the same ends
+abbrev pub same_link : Link → Link → Bool
+same_link a b = same_ends (link_ends a) (link_ends b)
+
 -- whether a store has the edge of a number and a world shows it
 abbrev pub has_edge : Contents → World → ℕ → Bool
 has_edge c w e = nat_lt e (length c.edges) && edge_shown c w e
@@ -97,7 +107,8 @@ has_own c w n = nat_lt n (length c.nodes) && list_any (is_about (node_at c n)) w
 
 -- whether a link begins or ends at a node
 abbrev pub is_end : List Ends → ℕ → Bool
-is_end links n = list_any (λ (p : Ends). p.src == n) links || list_any (λ (p : Ends). p.dst == n) links
+is_end links n =
+    list_any (λ (p : Ends). p.src == n) links || list_any (λ (p : Ends). p.dst == n) links
 
 -- whether a store has the node of a number and a world shows it
 abbrev pub is_present_number : Contents → World → ℕ → Bool

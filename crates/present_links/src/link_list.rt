@@ -1,7 +1,8 @@
 //! Lists of links.
-ghost use Rattle.std.specs.Prelude.{◌≡◌, ◌<◌, length, slice_get, Some};
+ghost use Rattle.std.specs.Prelude.{◌≡◌, ◌<◌, [], length, slice_get, Some};
+ghost use Rattle.std.specs.List.Retain.{IsFiltered, DiffersFromLast};
 ghost use Rattle.graph_model.specs.Rising.{rising};
-ghost use Rattle.present_links.specs.Links.{ends_cmp, ends_in, link_ends};
+ghost use Rattle.present_links.specs.Links.{ends_cmp, ends_in, link_ends, same_link};
 
 use std::marker::Model;
 
@@ -37,7 +38,7 @@ impl Links {
     {
         let mut links = links;
         links.sort_unstable();
-        links.dedup();
+        drop_repeated(&mut links);
         Links { links }
     }
 
@@ -62,4 +63,11 @@ impl Links {
     {
         self.links
     }
+}
+
+/// Drops each link that is the same as the one before.
+fn drop_repeated(links: &mut Vec<Link>)
+    ensures { IsFiltered (DiffersFromLast same_link) [] links.old.items links.new.items }
+{
+    links.dedup();
 }

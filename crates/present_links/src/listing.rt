@@ -24,7 +24,8 @@ fn push_shown<V: View, L: Ledger>(
         let more = if has_edge c (V.world view.now) e.0 then edge_ends c e.0 ∷ [] else [] in
         OnOk result (ends_in links.new.items ≡ ends_in links.old.items ++ more) }
     ensures cost { let among = length (V.contents view.now).accepted in
-        (V.world view.now).model ≡ Instants → IsWithin steps.old steps.new (V.searches view.now).edges among }
+        (V.world view.now).model ≡ Instants
+        → IsWithin steps.old steps.new (V.searches view.now).edges among }
 {
     let store = view.store();
     if e.0 >= store.edges() {

@@ -96,7 +96,8 @@ fn present_numbers<V: View, L: Ledger>(
     requires links { links.now ≡ rising_links (V.contents view.now) (V.world view.now) }
     requires covers { Covers (V.contents view.now) (V.world view.now) roster }
     ensures rise { IfOk result (λ numbers. Rises nat_cmp numbers.items) }
-    ensures known { IfOk result (λ numbers. All (λ n. n < length (V.contents view.now).nodes) numbers.items) }
+    ensures known { let c = V.contents view.now in
+        IfOk result (λ numbers. All (λ n. n < length c.nodes) numbers.items) }
     ensures present { let present = is_present_number (V.contents view.now) (V.world view.now) in
         IfOk result (λ numbers. (n : ℕ) → is_listed numbers.items n ≡ present n) }
     ensures cost { let among = length (V.contents view.now).accepted in

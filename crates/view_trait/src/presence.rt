@@ -70,8 +70,10 @@ fn has_present_pair<V: View, L: Ledger>(view: &V, n: NodeId, steps: &mut Steps<L
 /// Whether a node has an event of its own. Its span is asked once.
 pub fn has_event<V: View, L: Ledger>(view: &V, n: NodeId, steps: &mut Steps<L>) -> bool
     requires { n.0 < length (V.contents view.now).nodes }
-    ensures event { result ≡ list_any (is_about (node_at (V.contents view.now) n.0)) (V.world view.now).events }
-    ensures cost { IsWithin steps.old steps.new (V.searches view.now).nodes (length (V.contents view.now).accepted) }
+    ensures event { let node = node_at (V.contents view.now) n.0 in
+        result ≡ list_any (is_about node) (V.world view.now).events }
+    ensures cost { let among = length (V.contents view.now).accepted in
+        IsWithin steps.old steps.new (V.searches view.now).nodes among }
 {
     let store = view.store();
     let span = view.node_span(n, steps);

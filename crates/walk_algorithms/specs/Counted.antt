@@ -5,15 +5,21 @@ use Rattle.graph_store.specs.declared.pairs.Ends.{Ends}
 use Rattle.walk_algorithms.specs.declared.ways.Ways.{Ways}
 use Rattle.present_links.specs.Links.{links_from, links_to, alone_among}
 
--- the ways of a node by some of all links: how many end there, how many begin there, and how many of those that end there have no link back
+-- the ways of a node by some of all links: how many end there, how many begin there, and how many of
+-- those that end there have no link back
 pub record AreWays (all some : List Ends) (n : ℕ) (ways : Ways) : Type 0 where
   pub ins : ways.ins ≡ length (links_to some n)
   pub outs : ways.outs ≡ length (links_from some n)
   pub alone : ways.alone ≡ length (alone_among all some n)
 
--- the ways by the links between a node and another, or itself: whether one leads there, and whether one leads back
+-- the ways by the links between a node and another, or itself: whether one leads there, and whether
+-- one leads back
 abbrev pub between : Bool → Bool → Ways
-between there back = record { ins = if back then 1 else 0; outs = if there then 1 else 0; alone = if (not there && back) then 1 else 0 }
+between there back = record {
+  ins = if back then 1 else 0;
+  outs = if there then 1 else 0;
+  alone = if (not there && back) then 1 else 0;
+}
 
 -- the ways of both
 abbrev pub plus : Ways → Ways → Ways
@@ -33,15 +39,18 @@ ways_of table n = unwrap_or (lookup (nat_eq n) table) no_ways
 
 -- a table after a node was given ways
 abbrev pub Puts : List (ℕ × Ways) → ℕ → Ways → List (ℕ × Ways) → Type 0
-Puts before n ways after = (k : ℕ) → lookup (nat_eq k) after ≡ (if n == k then Some ways else lookup (nat_eq k) before)
+Puts before n ways after =
+    (k : ℕ) → lookup (nat_eq k) after ≡ (if n == k then Some ways else lookup (nat_eq k) before)
 
 -- the ways of a node after the links between two nodes are counted at both
 abbrev pub joined : ℕ → ℕ → Bool → Bool → ℕ → Ways → Ways
-joined src dst there back n w = if src == n then plus w (between there back) else (if dst == n then plus w (between back there) else w)
+joined src dst there back n w =
+    if src == n then plus w (between there back) else (if dst == n then plus w (between back there) else w)
 
 -- a table after the links between two nodes are counted at both
 abbrev pub IsJoined : ℕ → ℕ → Bool → Bool → List (ℕ × Ways) → List (ℕ × Ways) → Type 0
-IsJoined src dst there back before after = (n : ℕ) → ways_of after n ≡ joined src dst there back n (ways_of before n)
+IsJoined src dst there back before after =
+    (n : ℕ) → ways_of after n ≡ joined src dst there back n (ways_of before n)
 
 -- a table of the ways of nodes by some of all links
 abbrev pub IsCounted : List Ends → List Ends → List (ℕ × Ways) → Type 0

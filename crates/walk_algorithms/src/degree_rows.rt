@@ -95,7 +95,8 @@ fn degrees_of<V: View>(
     ensures rows { let c = V.contents view.now in
         let rows_of = λ (n : ℕ). degree_row (V.world view.now) (name_at c.nodes n) in
         IfOk result (λ rows. map (degree_row_of c) rows ≡ map rows_of nodes.now) }
-    ensures known { IfOk result (λ rows. All (λ d. d.node.0 < length (V.contents view.now).nodes) rows) }
+    ensures known { let c = V.contents view.now in
+        IfOk result (λ rows. All (λ d. d.node.0 < length c.nodes) rows) }
 {
     let mut rows = Vec::with_capacity(alloc, nodes.len())?;
     for i in 0..nodes.len() {
@@ -117,8 +118,10 @@ pub fn degrees<V: View, L: Ledger>(
 ) -> Result<DegreeRows, Memory>
     requires covers { Covers (V.contents view.now) (V.world view.now) roster }
     ensures rows { let w = V.world view.now in
-        IfOk result (λ rows. map (degree_row_of (V.contents view.now)) rows ≡ map (degree_row w) (nodes w)) }
-    ensures known { IfOk result (λ rows. All (λ d. d.node.0 < length (V.contents view.now).nodes) rows) }
+        let c = V.contents view.now in
+        IfOk result (λ rows. map (degree_row_of c) rows ≡ map (degree_row w) (nodes w)) }
+    ensures known { let c = V.contents view.now in
+        IfOk result (λ rows. All (λ d. d.node.0 < length c.nodes) rows) }
     ensures cost { let c = V.contents view.now in
         let of_nodes = node_count c roster.entry * (V.searches view.now).nodes in
         let of_edges = edge_count c roster.entry * (V.searches view.now).edges in
