@@ -10,7 +10,7 @@ use Rattle.graph_model.specs.declared.queries.Query.{Query}
 use Rattle.graph_model.specs.World.{World}
 use Rattle.graph_model.specs.RowText.{rows_text}
 use Rattle.graph_model.specs.Refusal.{RecordRefusal}
-use Rattle.graph_model.specs.Script.{QueryRefusal, Unbuilt, is_blank}
+use Rattle.graph_model.specs.Script.{QueryRefusal, Unbuilt, is_blank, lines_of}
 use Rattle.graph_model.specs.QueryLine.{asked_of, query_of, query_said, unless_refused}
 use Rattle.graph_model.specs.Output.{IsBlockOf, IsQueryBlock, refused_query_row, refused_row}
 use Rattle.query_answers.specs.Blocks.{AddsAnswer}
@@ -46,10 +46,11 @@ refused-added w number refusal old new is =
     (refused_query_row number refusal ∷ [], refl, is ∙ ap (λ t. old ++ t) (sym (append-nil row)))
 
 -- a query that is refused where it is asked, and one that is not
-pub unanswered-added : {T E : Type 0} (r : Result T E) (w : World) (number : ℕ) (query : Query) (old new : List ℕ) → is_answered query ≡ false
-    → OnOk r (new ≡ old ++ row_text default_writer (refused_query_row number Unbuilt)) → OnOk r (AddsQuery w number (asked_of asked_refusal w (Ok query)) old new)
-unanswered-added (Ok x) w number query old new none is = rw none (refused-added w number Unbuilt old new is)
-unanswered-added (Err e) w number query old new none is = tt
+pub unanswered-added : (w : World) (number : ℕ) (query : Query) (old middle new : List ℕ) → is_answered query ≡ false → middle ≡ old
+    → new ≡ middle ++ row_text default_writer (refused_query_row number Unbuilt) → AddsQuery w number (asked_of asked_refusal w (Ok query)) old new
+unanswered-added w number query old middle new none same is =
+    let row = row_text default_writer (refused_query_row number Unbuilt) in
+    rw none (refused-added w number Unbuilt old new (is ∙ ap (λ t. t ++ row) same))
 
 pub answered-added : (w : World) (number : ℕ) (query : Query) (old new : List ℕ) → is_answered query ≡ true → AddsAnswer w number query old new
     → AddsQuery w number (asked_of asked_refusal w (Ok query)) old new
@@ -66,14 +67,19 @@ pub blank-added : (w : World) (number : ℕ) (line text : List ℕ) → is_blank
 unfolding AddsLine
 blank-added w number line text blank = ([], subst (λ b. IsBlockOf w number b (query_of asked_refusal w line) []) (sym blank) refl, sym (append-nil text))
 
-pub said-added : (w : World) (number : ℕ) (line : List ℕ) (said : Result Query QueryRefusal) (old new : List ℕ) → is_blank line ≡ false → query_said line ≡ said
+line-added : (w : World) (number : ℕ) (line : List ℕ) (said : Result Query QueryRefusal) (old new : List ℕ) → is_blank line ≡ false → query_said line ≡ said
     → AddsQuery w number (asked_of asked_refusal w said) old new → AddsLine w number line old new
 unfolding AddsQuery AddsLine
-said-added w number line said old new some is added = rw (some, is) added
+line-added w number line said old new some is added = rw (some, is) added
+
+pub said-added : {T E : Type 0} (r : Result T E) (w : World) (number : ℕ) (line : List ℕ) (query : Query) (old new : List ℕ) → is_blank line ≡ false → query_said line ≡ Ok query
+    → OnOk r (AddsQuery w number (asked_of asked_refusal w (Ok query)) old new) → OnOk r (AddsLine w number line old new)
+said-added (Ok x) w number line query old new some is added = line-added w number line (Ok query) old new some is added
+said-added (Err e) w number line query old new some is added = tt
 
 pub refused_line-added : (w : World) (number : ℕ) (line : List ℕ) (refusal : QueryRefusal) (old new : List ℕ) → is_blank line ≡ false → query_said line ≡ Err refusal
     → new ≡ old ++ row_text default_writer (refused_query_row number refusal) → AddsLine w number line old new
-refused_line-added w number line refusal old new some is written = said-added w number line (Err refusal) old new some is (refused-added w number refusal old new written)
+refused_line-added w number line refusal old new some is written = line-added w number line (Err refusal) old new some is (refused-added w number refusal old new written)
 
 -- ---- the blocks of lines
 
@@ -81,9 +87,9 @@ refused_line-added w number line refusal old new some is written = said-added w 
 abbrev pub AddsRest : World → ℕ → List (List ℕ) → List (List ℕ) → List ℕ → List ℕ → Type 0
 AddsRest w number left lines old now = (end : List ℕ) → AddsLines w number left now end → AddsLines w 1 lines old end
 
-pub AddsRest-none : (w : World) (lines : List (List ℕ)) (old now : List ℕ) (number : ℕ) → AddsRest w number [] lines old now → AddsLines w 1 lines old now
+pub AddsRest-none : (w : World) (number : ℕ) (left : List ℕ) (lines : List (List ℕ)) (old now : List ℕ) → left ≡ [] → AddsRest w number (lines_of left) lines old now → AddsLines w 1 lines old now
 unfolding AddsLines
-AddsRest-none w lines old now number rest = rest now ([], refl, sym (append-nil now))
+AddsRest-none w number left lines old now none rest = (rw none at rest) now ([], refl, sym (append-nil now))
 
 pub AddsRest-more : (w : World) (number : ℕ) (left more lines : List (List ℕ)) (line old now after : List ℕ) → left ≡ line ∷ more → AddsLine w number line now after
     → AddsRest w number left lines old now → AddsRest w (number + 1) more lines old after
@@ -92,6 +98,6 @@ AddsRest-more w number left more lines line old now after is added rest end othe
     let (block, is_block, first) = added in
     let (blocks, are, then) = others in
     let text : end ≡ now ++ rows_text (block ++ blocks) =
-        then ∙ (ap (λ t. t ++ rows_text blocks) first ∙ (append_assoc now (rows_text block) (rows_text blocks)
-        ∙ ap (λ t. now ++ t) (sym (flat_map-append (row_text default_writer) block blocks)))) in
+    then ∙ (ap (λ t. t ++ rows_text blocks) first ∙ (append_assoc now (rows_text block) (rows_text blocks)
+    ∙ ap (λ t. now ++ t) (sym (flat_map-append (row_text default_writer) block blocks)))) in
     rest end (rw is (block ++ blocks, (block, blocks, is_block, are, refl), text))

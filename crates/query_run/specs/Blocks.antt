@@ -31,4 +31,4 @@ IsText read script text = let r = told read in
     (blocks : List (List (List ℕ)))
     × AreBlocks asked_refusal (base_of read.store) 1 (lines_of script) blocks
     × (text ≡ rows_text (map refused_row r.refused
-        ++ (graph_row read.store.model r.bounds (length r.accepted) (length r.refused) ∷ blocks)))
+    ++ (graph_row read.store.model r.bounds (length r.accepted) (length r.refused) ∷ blocks)))

@@ -4,3 +4,4 @@ pub mod Cost
 pub mod Blocks
 pub mod Runs
 pub mod Commands
+pub mod Endings

@@ -2,6 +2,7 @@
 #![tactic(auto)]
 
 mod causes;
+mod endings;
 mod file_output;
 mod laws;
 mod line_blocks;

@@ -96,8 +96,8 @@ fn add_line<L: Ledger>(
     }
 }
 
-// Appends the blocks of a script, and says whether no query was refused.
-fn add_lines<L: Ledger>(
+/// Appends the blocks of a script, and says whether no query was refused.
+pub fn add_lines<L: Ledger>(
     alloc: Global,
     out: &mut Vec<u8>,
     store: &Store,

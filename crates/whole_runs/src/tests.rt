@@ -128,3 +128,38 @@ fn deleted_edge_is_not_present(rt: HostRuntime) -> Result<(), Fail> {
     assert_eq!(rt; text.as_slice(), LASTING);
     Ok(())
 }
+
+#[test]
+fn each_status_ends_with_its_number_and_line(rt: HostRuntime) -> Result<(), Fail> {
+    for (status, number, line) in [
+        (Status::Done, 0, ""),
+        (Status::DoneWithRefusals, 1, ""),
+        (
+            Status::Usage,
+            2,
+            "usage: query_cli --model event|persistent --events PATH --script PATH",
+        ),
+        (Status::Memory, 3, "out of memory"),
+        (
+            Status::InputFault(Which::Events),
+            4,
+            "cannot read the events file",
+        ),
+        (
+            Status::InputFault(Which::Script),
+            4,
+            "cannot read the script",
+        ),
+        (Status::OutputFault, 5, "cannot write the output"),
+        (
+            Status::TooLong(Which::Events),
+            6,
+            "the events file is too long",
+        ),
+        (Status::TooLong(Which::Script), 6, "the script is too long"),
+    ] {
+        assert_eq!(rt; status.exit_number(), number);
+        assert_eq!(rt; status.fault_line().unwrap_or(""), line);
+    }
+    Ok(())
+}

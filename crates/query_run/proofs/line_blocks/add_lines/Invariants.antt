@@ -11,7 +11,7 @@ use Rattle.query_run.proofs.line_blocks.add_lines.Given as goal
 
 abbrev pub invariant-loop-rest : goal.invariant-loop-rest
 invariant-loop-rest g l = record {
-  blocks : AddsRest (base_of l.store) l.number (lines_of l.rest) (lines_of l.script) l.fn.out.items l.out.items;
+  added : AddsRest (base_of l.store) l.number (lines_of l.rest) (lines_of l.script) l.fn.out.items l.out.items;
   clean : (l.clean && list_all (is_clean_line asked_refusal (base_of l.store)) (lines_of l.rest)) ≡ list_all (is_clean_line asked_refusal (base_of l.store)) (lines_of l.script);
   number : l.number + length l.rest ≤ length l.script + 1;
   counted : StepsLeft (base_of l.store) (size_of l.store) (lines_of l.script) (lines_of l.rest) l.fn.steps l.steps;
