@@ -3,6 +3,7 @@ use Rattle.std.specs.Prelude.{◌≡◌, ◌⊎◌, ◌<◌, ◌≤◌, ◌+◌,
 use Rattle.std.specs.Io.KnownBytes.{append_known}
 use Rattle.graph_model.specs.declared.events.Model.{Model}
 use Rattle.graph_model.specs.Command.{Command, Files}
+use Rattle.graph_model.specs.Limits.{most_events_bytes, most_script_bytes}
 use Rattle.graph_model.specs.Output.{IsOutput, is_clean}
 use Rattle.outside_io.specs.Outside.{IsLonger, IsMissing, bytes_of}
 use Rattle.query_answers.specs.Refusing.{asked_refusal}
@@ -63,8 +64,8 @@ Misses (Some command) files which = IsMissing files (path_of which command)
 
 -- how many bytes a file may have
 abbrev pub most_of : Which → ℕ
-most_of Events = 268435456
-most_of Script = 1048576
+most_of Events = most_events_bytes
+most_of Script = most_script_bytes
 
 -- the file that a command names is there and too long, where the files are told
 abbrev pub IsTooLong : Option Command → Option (List (List ℕ × List ℕ)) → Which → Type 0

@@ -2,12 +2,13 @@
 ghost use Rattle.std.specs.Prelude.{◌≡◌, ◌⊎◌, ◌↔◌, ◌<◌, ◌≤◌, ◌+◌, ◌%◌, ◌^◌, false, IfSome, None};
 ghost use Rattle.std.specs.Io.KnownBytes.{IsAtEnd};
 ghost use Rattle.graph_model.specs.Command.{command};
+ghost use Rattle.graph_model.specs.Limits.{most_events_bytes, most_script_bytes};
 ghost use Rattle.outside_io.specs.Outside.{Rises};
 ghost use Rattle.query_run.specs.Runs.{HasEvents, IsAmiss, IsAnswered, IsCounted, IsOver, IsTooLong, IsWriting, Misses, Writes};
 
 use crate::file_output::answer_files;
 use crate::words::read_words;
-use graph_model::Words;
+use graph_model::{MOST_EVENTS_BYTES, MOST_SCRIPT_BYTES, Words};
 use outside_io::{Inputs, Output, ReadFault, Sink, read_all, write_all};
 use std::alloc::Global;
 use std::sync::ledger::Ledger;
@@ -39,12 +40,6 @@ pub enum Status {
     TooLong(Which),
 }
 
-/// How many bytes an events file may have.
-const MOST_EVENTS: usize = 268_435_456;
-
-/// How many bytes a script may have.
-const MOST_SCRIPT: usize = 1_048_576;
-
 /// Carries out the command that the words after the program's name are: reads the events file to its end, then the
 /// script to its end, and only then writes the output. Nothing is written at any status but `Done`, `DoneWithRefusals`
 /// and `OutputFault`; what was written at an `OutputFault` is a front of the output.
@@ -58,29 +53,44 @@ pub fn run<I: Inputs, O: Sink, L: Ledger>(
     ensures usage { (result ≡ Status.Usage) ↔ (command words.now ≡ None) }
 
     // The whole output, some front of it, or nothing, by the status.
-    ensures writes { Writes result (command words.now) (I.files inputs.old) (O.written sink.old) (O.written sink.new) }
+    ensures writes { Writes result (command words.now) (I.files inputs.old)
+        (O.written sink.old) (O.written sink.new) }
 
-    ensures events_fault { result ≡ Status.InputFault Which.Events → (I.begun inputs.new ≡ (I.begun inputs.old + 1) % 2 ^ 64)
-        × (Rises (I.faults_before inputs.new) (I.faults inputs.new) ⊎ Misses (command words.now) (I.files inputs.old) Which.Events) }
-    ensures script_fault { result ≡ Status.InputFault Which.Script → (I.begun inputs.new ≡ (I.begun inputs.old + 2) % 2 ^ 64)
-        × (Rises (I.faults_before inputs.new) (I.faults inputs.new) ⊎ Misses (command words.now) (I.files inputs.old) Which.Script) }
-    ensures output_fault { result ≡ Status.OutputFault → Rises (O.faults sink.old) (O.faults sink.new) }
+    ensures events_fault { result ≡ Status.InputFault Which.Events
+        → (I.begun inputs.new ≡ (I.begun inputs.old + 1) % 2 ^ 64)
+        × (Rises (I.faults_before inputs.new) (I.faults inputs.new)
+        ⊎ Misses (command words.now) (I.files inputs.old) Which.Events) }
+    ensures script_fault { result ≡ Status.InputFault Which.Script
+        → (I.begun inputs.new ≡ (I.begun inputs.old + 2) % 2 ^ 64)
+        × (Rises (I.faults_before inputs.new) (I.faults inputs.new)
+        ⊎ Misses (command words.now) (I.files inputs.old) Which.Script) }
+    ensures output_fault { result ≡ Status.OutputFault
+        → Rises (O.faults sink.old) (O.faults sink.new) }
 
-    ensures events_long { (result ≡ Status.TooLong Which.Events) ↔ ((I.begun inputs.new ≡ (I.begun inputs.old + 1) % 2 ^ 64) × (268435456 < I.given inputs.new)) }
-    ensures script_long { (result ≡ Status.TooLong Which.Script) ↔ ((I.begun inputs.new ≡ (I.begun inputs.old + 2) % 2 ^ 64) × (1048576 < I.given inputs.new)) }
-    ensures long_events { result ≡ Status.TooLong Which.Events → IsTooLong (command words.now) (I.files inputs.old) Which.Events }
-    ensures long_script { result ≡ Status.TooLong Which.Script → IsTooLong (command words.now) (I.files inputs.old) Which.Script }
+    ensures events_long { (result ≡ Status.TooLong Which.Events)
+        ↔ ((I.begun inputs.new ≡ (I.begun inputs.old + 1) % 2 ^ 64)
+        × (most_events_bytes < I.given inputs.new)) }
+    ensures script_long { (result ≡ Status.TooLong Which.Script)
+        ↔ ((I.begun inputs.new ≡ (I.begun inputs.old + 2) % 2 ^ 64)
+        × (most_script_bytes < I.given inputs.new)) }
+    ensures long_events { result ≡ Status.TooLong Which.Events
+        → IsTooLong (command words.now) (I.files inputs.old) Which.Events }
+    ensures long_script { result ≡ Status.TooLong Which.Script
+        → IsTooLong (command words.now) (I.files inputs.old) Which.Script }
 
     // What comes of the script comes only behind the whole events file.
-    ensures script_fault_after { result ≡ Status.InputFault Which.Script → HasEvents (command words.now) (I.files inputs.old) }
-    ensures script_long_after { result ≡ Status.TooLong Which.Script → HasEvents (command words.now) (I.files inputs.old) }
+    ensures script_fault_after { result ≡ Status.InputFault Which.Script
+        → HasEvents (command words.now) (I.files inputs.old) }
+    ensures script_long_after { result ≡ Status.TooLong Which.Script
+        → HasEvents (command words.now) (I.files inputs.old) }
 
     // An output, or a front of it, stands on both files, read to their ends.
-    ensures to_the_ends { IsWriting result → (I.begun inputs.new ≡ (I.begun inputs.old + 2) % 2 ^ 64)
+    ensures to_the_ends { IsWriting result
+        → (I.begun inputs.new ≡ (I.begun inputs.old + 2) % 2 ^ 64)
         × IfSome (I.had_left inputs.new) (λ had. had ≡ false) × IsAtEnd (I.left inputs.new) }
 
-    // Where nothing is amiss with the words and the files, no count of faults rose, and no file is over its limit, the
-    // answer is there, or memory was wanting.
+    // Where nothing is amiss with the words and the files, no count of faults rose, and no file is over
+    // its limit, the answer is there, or memory was wanting.
     ensures complete { IsAnswered result
         ⊎ (IsAmiss (command words.now) (I.files inputs.old)
         ⊎ (Rises (I.faults_before inputs.new) (I.faults inputs.new)
@@ -88,20 +98,21 @@ pub fn run<I: Inputs, O: Sink, L: Ledger>(
         ⊎ (IsOver Which.Events (I.begun inputs.old) (I.begun inputs.new) (I.given inputs.new)
         ⊎ IsOver Which.Script (I.begun inputs.old) (I.begun inputs.new) (I.given inputs.new))))) }
 
-    // Stored times are read no more often than the events and the queries ask for, where each answered query is counted,
-    // and never where the words are no command.
+    // Stored times are read no more often than the events and the queries ask for, where each answered
+    // query is counted, and never where the words are no command. For a question about a node or an edge
+    // that no accepted event or type names, none are read.
     ensures steps { IsCounted (command words.now) (I.files inputs.old) steps.old steps.new }
 {
     let Some(command) = read_words(words) else {
         return Status::Usage;
     };
-    let events = match read_all(alloc, inputs, command.events, MOST_EVENTS) {
+    let events = match read_all(alloc, inputs, command.events, MOST_EVENTS_BYTES) {
         Ok(bytes) => bytes,
         Err(ReadFault::Input) => return Status::InputFault(Which::Events),
         Err(ReadFault::TooLong) => return Status::TooLong(Which::Events),
         Err(ReadFault::Memory) => return Status::Memory,
     };
-    let script = match read_all(alloc, inputs, command.script, MOST_SCRIPT) {
+    let script = match read_all(alloc, inputs, command.script, MOST_SCRIPT_BYTES) {
         Ok(bytes) => bytes,
         Err(ReadFault::Input) => return Status::InputFault(Which::Script),
         Err(ReadFault::TooLong) => return Status::TooLong(Which::Script),
