@@ -17,9 +17,9 @@ use Rattle.graph_model.specs.World.{World}
 use Rattle.time_history.specs.declared.updates.Kind.{Kind}
 use Rattle.time_history.specs.declared.updates.Update.{Update}
 use Rattle.time_history.specs.declared.span.Span.{Span}
-use Rattle.time_history.specs.Told.{Fits}
+use Rattle.time_history.specs.Telling.{Fits}
 use Rattle.time_history.specs.Spans.{spelled}
-use Rattle.time_history.specs.Asked.{AreNamed, IsValue, IsLastKind, kind_of}
+use Rattle.time_history.specs.Asked.{AreNamed, IsValue, IsLastKind, kind_of_event}
 use Rattle.graph_store.specs.Keys.{key_name}
 use Rattle.graph_store.specs.Contents.{Contents, name_at}
 use Rattle.view_trait.specs.Meaning.{Tells, Shows, node_at, edge_at}
@@ -54,12 +54,12 @@ node_compared s w n us span keys key c v b t h are m k =
 
 -- ---- additions that come last
 
-add_is : (what : What) → is_add (kind_of what) ≡ adds what
+add_is : (what : What) → is_add (kind_of_event what) ≡ adds what
 add_is (NodeUpdate name props) = refl
 add_is (Add edge props) = refl
 add_is (Delete edge) = refl
 
-added : (o : Option Event) → option_map_or is_add (option_map (λ (x : Event). kind_of x.what) o) false ≡ option_map_or is_addition o false
+added : (o : Option Event) → option_map_or is_add (option_map (λ (x : Event). kind_of_event x.what) o) false ≡ option_map_or is_addition o false
 added None = refl
 added (Some x) = add_is x.what
 

@@ -6,7 +6,7 @@ use Rattle.std.proofs.lemmas.Nat.Bits.{bit_at_ones}
 use Rattle.graph_model.specs.declared.events.Entity.{Entity}
 use Rattle.graph_model.specs.Keep.{keep, in_layers}
 use Rattle.graph_model.specs.World.{World, events_of}
-use Rattle.graph_store.specs.Parts.{parts_at}
+use Rattle.graph_store.specs.EdgeParts.{parts_at}
 use Rattle.graph_store.specs.Contents.{Contents}
 use Rattle.view_trait.specs.Meaning.{IsShown, HasLayers, edge_at}
 use Rattle.view_trait.specs.Numbered.{layers_numbered}

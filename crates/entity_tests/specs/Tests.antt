@@ -6,7 +6,7 @@ use Rattle.graph_model.specs.World.{World}
 use Rattle.time_history.specs.declared.updates.Update.{Update}
 use Rattle.time_history.specs.declared.span.Span.{Span}
 use Rattle.time_history.specs.Spans.{IsSpan}
-use Rattle.graph_store.specs.Parts.{parts_at}
+use Rattle.graph_store.specs.EdgeParts.{parts_at}
 use Rattle.graph_store.specs.Contents.{Contents}
 use Rattle.view_trait.specs.Meaning.{IsShown, Tells, node_at, edge_at}
 use Rattle.view_trait.specs.Numbered.{has_bit}

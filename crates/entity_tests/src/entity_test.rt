@@ -5,7 +5,7 @@ ghost use Rattle.graph_model.specs.declared.events.Entity.{Entity};
 ghost use Rattle.graph_model.specs.declared.events.Entity.TheVariants.{Node, Edge};
 ghost use Rattle.graph_model.specs.World.{World};
 ghost use Rattle.graph_store.specs.Contents.{Contents};
-ghost use Rattle.view_trait.specs.Meaning.{IsWithin, Shows, node_at, edge_at};
+ghost use Rattle.view_trait.specs.Meaning.{StepsWithin, Shows, node_at, edge_at};
 ghost use Rattle.entity_tests.specs.Tests.{IsSpanOf, PassesLayers, end_searches, ends_pass};
 
 use graph_store::{EdgeId, NodeId, Store};
@@ -38,11 +38,14 @@ pub trait EntityTest {
         ensures { (w : World) → Shows store.now w (node_at store.now n.0) span → result ≡ passes self.now store.now w (node_at store.now n.0) };
 
     /// Whether an edge passes in each world in which a span shows it, where its ends are not asked.
+    /// Where they are, nothing is said of the answer.
     fn passes_edge(&self, store: &Store, e: EdgeId, span: Span) -> bool
         requires exists { e.0 < length store.now.edges }
         requires span { IsSpanOf store.now (edge_at store.now e.0) span }
-        requires alone { by_ends self.now ≡ false }
-        ensures { (w : World) → Shows store.now w (edge_at store.now e.0) span → result ≡ passes self.now store.now w (edge_at store.now e.0) };
+        ensures { by_ends self.now ≡ false
+            → (w : World)
+            → Shows store.now w (edge_at store.now e.0) span
+            → result ≡ passes self.now store.now w (edge_at store.now e.0) };
 
     /// An edge passes by its ends.
     ghost ends: { (test : Self) (c : Contents) (w : World) (edge : EdgeName) → by_ends test ≡ true → passes test c w (Edge edge) ≡ (passes test c w (Node edge.src) && passes test c w (Node edge.dst)) };
@@ -57,7 +60,7 @@ fn node_passes_in<T: EntityTest, V: View, L: Ledger>(
 ) -> bool
     requires { n.0 < length (V.contents view.now).nodes }
     ensures passes { let c = V.contents view.now in result ≡ T.passes test.now c (V.world view.now) (node_at c n.0) }
-    ensures cost { let c = V.contents view.now in IsWithin steps.old steps.new (V.searches view.now).nodes (length c.accepted) }
+    ensures cost { let c = V.contents view.now in StepsWithin steps.old steps.new (V.searches view.now).nodes (length c.accepted) }
 {
     let span = view.node_span(n, steps);
     test.passes_node(view.store(), n, span)
@@ -72,7 +75,7 @@ fn ends_pass_in<T: EntityTest, V: View, L: Ledger>(
 ) -> bool
     requires { e.0 < length (V.contents view.now).edges }
     ensures passes { let c = V.contents view.now in result ≡ ends_pass (T.passes test.now c (V.world view.now)) c e.0 }
-    ensures cost { let c = V.contents view.now in IsWithin steps.old steps.new (2 * (V.searches view.now).nodes) (length c.accepted) }
+    ensures cost { let c = V.contents view.now in StepsWithin steps.old steps.new (2 * (V.searches view.now).nodes) (length c.accepted) }
 {
     let (src, dst, _layer) = view.store().edge_parts(e);
     node_passes_in(test, view, src, steps) && node_passes_in(test, view, dst, steps)
@@ -89,7 +92,7 @@ pub fn edge_passes_in<T: EntityTest, V: View, L: Ledger>(
     requires exists { e.0 < length (V.contents view.now).edges }
     requires span { let c = V.contents view.now in Shows c (V.world view.now) (edge_at c e.0) span }
     ensures passes { let c = V.contents view.now in result ≡ T.passes test.now c (V.world view.now) (edge_at c e.0) }
-    ensures cost { let c = V.contents view.now in IsWithin steps.old steps.new (end_searches (T.by_ends test.now) (V.searches view.now)) (length c.accepted) }
+    ensures cost { let c = V.contents view.now in StepsWithin steps.old steps.new (end_searches (T.by_ends test.now) (V.searches view.now)) (length c.accepted) }
 {
     if test.asks_ends() {
         ends_pass_in(test, view, e, steps)

@@ -3,7 +3,7 @@ ghost use Rattle.std.specs.Prelude.{◌≡◌, ℕ, ℤ, List, false};
 ghost use Rattle.graph_model.specs.declared.events.Entity.{Entity};
 ghost use Rattle.graph_model.specs.Keep.{is_valid};
 ghost use Rattle.graph_model.specs.Presence.{ends_in_addition as is_added_last};
-ghost use Rattle.time_history.specs.Told.{Fits};
+ghost use Rattle.time_history.specs.Telling.{Fits};
 ghost use Rattle.time_history.specs.Spans.{IsSpan, spelled};
 ghost use Rattle.entity_tests.specs.Kinds.{is_add};
 ghost use Rattle.entity_tests.specs.Tests.{never_asked};

@@ -2,7 +2,7 @@
 ghost use Rattle.std.specs.Prelude.{◌≡◌, ℕ, ℤ, List, length};
 ghost use Rattle.graph_model.specs.declared.properties.ValueType.{ValueType as KeyType};
 ghost use Rattle.graph_model.specs.declared.events.Entity.{Entity};
-ghost use Rattle.time_history.specs.Told.{Fits};
+ghost use Rattle.time_history.specs.Telling.{Fits};
 ghost use Rattle.time_history.specs.Spans.{IsSpan, spelled};
 ghost use Rattle.time_history.specs.Asked.{AreNamed};
 ghost use Rattle.graph_store.specs.Keys.{key_name};

@@ -12,9 +12,9 @@ use Rattle.graph_model.specs.Record.{prop_text}
 use Rattle.graph_model.specs.Said.{properties_in}
 use Rattle.graph_model.specs.declared.properties.Value.{Value}
 use Rattle.property_values.proofs.Fields.{property_of-prop_text}
-use Rattle.event_rows.specs.Gathering.{gathered, put_field}
+use Rattle.event_rows.specs.Gathering.{with_properties, put_field}
 use Rattle.event_rows.specs.Sayable.{AreSayableProps, IsSayableProp}
-use Rattle.event_rows.proofs.Gathering.{gathered-properties_in}
+use Rattle.event_rows.proofs.Gathering.{with_properties-properties_in}
 
 -- a property behind lesser keys
 Behind : List ℕ → List (List ℕ × Value) → Type 0
@@ -42,18 +42,18 @@ rising-behind (q ∷ front) p rest rise = (first front rise.0, rising-behind fro
     first (r ∷ front) each = first front each.1
 
 -- properties that rise are put one behind another
-gathered-text : (front props : List (List ℕ × Value)) → KeysRise (front ++ props) → length (front ++ props) ≤ 256 → AllByRecursion IsSayableProp props
-    → gathered front (map prop_text props) ≡ Some (front ++ props)
-gathered-text front [] rise few each = rw (append-nil front) refl
-gathered-text front (p ∷ props) rise few each =
+with_properties-text : (front props : List (List ℕ × Value)) → KeysRise (front ++ props) → length (front ++ props) ≤ 256 → AllByRecursion IsSayableProp props
+    → with_properties front (map prop_text props) ≡ Some (front ++ props)
+with_properties-text front [] rise few each = rw (append-nil front) refl
+with_properties-text front (p ∷ props) rise few each =
     let (none, put) = put-last p front (rising-behind front p props rise) in
     let size = length-append front (p ∷ props) in
     let room : nat_le 256 (length front) ≡ false = grind (arith, nat_tests) in
     let one : put_field front (prop_text p) ≡ Some (front ++ p ∷ []) = rw (property_of-prop_text p.0 p.1 each.0.0 each.0.1 each.0.2, none, room, put) refl in
     let same = append_assoc front (p ∷ []) props in
-    let more = gathered-text (front ++ p ∷ []) props (subst KeysRise (sym same) rise) (rw same few) each.1 in
+    let more = with_properties-text (front ++ p ∷ []) props (subst KeysRise (sym same) rise) (rw same few) each.1 in
     rw one (more ∙ ap (λ (all : List (List ℕ × Value)). Some all) same)
 
 -- the fields of properties that rise are these properties
 pub properties_in-text : (props : List (List ℕ × Value)) → AreSayableProps props → properties_in (map prop_text props) ≡ Some props
-properties_in-text props all = sym (gathered-properties_in (map prop_text props)) ∙ gathered-text [] props all.0 all.1 all.2
+properties_in-text props all = sym (with_properties-properties_in (map prop_text props)) ∙ with_properties-text [] props all.0 all.1 all.2

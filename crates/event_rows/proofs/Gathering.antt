@@ -15,7 +15,7 @@ use Rattle.graph_model.specs.Said.{properties_in}
 use Rattle.graph_model.specs.declared.properties.Value.{Value}
 use Rattle.world_laws.proofs.Arrivals.{in_order-push}
 use Rattle.world_laws.proofs.Counts.{length_in_order}
-use Rattle.event_rows.specs.Gathering.{gathered}
+use Rattle.event_rows.specs.Gathering.{with_properties}
 
 key_total : IsTotalOrder key_cmp
 key_total = record { antisymm = λ p q. name_total.antisymm p.0 q.0; trans = λ p q r. name_total.trans p.0 q.0 r.0; congr = λ p q r. name_total.congr p.0 q.0 r.0 }
@@ -95,20 +95,20 @@ chosen : List (List ℕ × Value) → List (List ℕ) → Option (List (List ℕ
 chosen qs fields = if fits qs fields then Some (in_order key_cmp (qs ++ filter_map property_of fields)) else None
 
 -- no property
-step-none : (qs : List (List ℕ × Value)) (field : List ℕ) (fields : List (List ℕ)) → property_of field ≡ None → gathered (in_order key_cmp qs) (field ∷ fields) ≡ chosen qs (field ∷ fields)
+step-none : (qs : List (List ℕ × Value)) (field : List ℕ) (fields : List (List ℕ)) → property_of field ≡ None → with_properties (in_order key_cmp qs) (field ∷ fields) ≡ chosen qs (field ∷ fields)
 unfolding fits chosen
 step-none qs field fields is = rw (is, and_none (nat_le (length qs + length (field ∷ fields)) 256)) refl
 
 -- a key that is there
 step-repeated : (qs : List (List ℕ × Value)) (field : List ℕ) (fields : List (List ℕ)) (p : List ℕ × Value) → property_of field ≡ Some p → has_key p.0 qs ≡ true
-    → gathered (in_order key_cmp qs) (field ∷ fields) ≡ chosen qs (field ∷ fields)
+    → with_properties (in_order key_cmp qs) (field ∷ fields) ≡ chosen qs (field ∷ fields)
 unfolding fits chosen
 step-repeated qs field fields p is has =
     rw (is, has_key-in_order p.0 qs, has, keys_differ-repeated p qs (filter_map property_of fields) has, and_none (list_all (λ field. is_some (property_of field)) fields), and_none (nat_le (length qs + length (field ∷ fields)) 256)) refl
 
 -- no room
 step-full : (qs : List (List ℕ × Value)) (field : List ℕ) (fields : List (List ℕ)) (p : List ℕ × Value) → property_of field ≡ Some p → has_key p.0 qs ≡ false → nat_le 256 (length qs) ≡ true
-    → gathered (in_order key_cmp qs) (field ∷ fields) ≡ chosen qs (field ∷ fields)
+    → with_properties (in_order key_cmp qs) (field ∷ fields) ≡ chosen qs (field ∷ fields)
 unfolding fits chosen
 step-full qs field fields p is has full =
     let many : nat_le (length qs + length (field ∷ fields)) 256 ≡ false = grind (arith, nat_tests) in
@@ -116,7 +116,7 @@ step-full qs field fields p is has full =
 
 -- one property more
 step-more : (qs : List (List ℕ × Value)) (field : List ℕ) (fields : List (List ℕ)) (p : List ℕ × Value) → property_of field ≡ Some p → has_key p.0 qs ≡ false → nat_le 256 (length qs) ≡ false
-    → gathered (in_order key_cmp (qs ++ p ∷ [])) fields ≡ chosen (qs ++ p ∷ []) fields → gathered (in_order key_cmp qs) (field ∷ fields) ≡ chosen qs (field ∷ fields)
+    → with_properties (in_order key_cmp (qs ++ p ∷ [])) fields ≡ chosen (qs ++ p ∷ []) fields → with_properties (in_order key_cmp qs) (field ∷ fields) ≡ chosen qs (field ∷ fields)
 unfolding fits chosen
 step-more qs field fields p is has room more =
     let one = length-append qs (p ∷ []) in
@@ -124,20 +124,20 @@ step-more qs field fields p is has room more =
     let same = append_assoc qs (p ∷ []) (filter_map property_of fields) in
     rw (is, has_key-in_order p.0 qs, has, length_in_order key_cmp qs, room, in_order-more p qs) (rw (size, same) at more)
 
-gathered-chosen : (fields : List (List ℕ)) (qs : List (List ℕ × Value)) → length qs ≤ 256 → keys_differ qs ≡ true → gathered (in_order key_cmp qs) fields ≡ chosen qs fields
+with_properties-chosen : (fields : List (List ℕ)) (qs : List (List ℕ × Value)) → length qs ≤ 256 → keys_differ qs ≡ true → with_properties (in_order key_cmp qs) fields ≡ chosen qs fields
 unfolding fits chosen
-gathered-chosen [] qs few differ =
+with_properties-chosen [] qs few differ =
     let fit : nat_le (length qs + 0) 256 ≡ true = grind (arith, nat_tests) in
     rw (append-nil qs, fit, differ) refl
-gathered-chosen (field ∷ fields) qs few differ = by (property_of field) refl (gathered-chosen fields)
+with_properties-chosen (field ∷ fields) qs few differ = by (property_of field) refl (with_properties-chosen fields)
   where
     by : (o : Option (List ℕ × Value)) → property_of field ≡ o
-        → ((ps : List (List ℕ × Value)) → length ps ≤ 256 → keys_differ ps ≡ true → gathered (in_order key_cmp ps) fields ≡ chosen ps fields)
-        → gathered (in_order key_cmp qs) (field ∷ fields) ≡ chosen qs (field ∷ fields)
+        → ((ps : List (List ℕ × Value)) → length ps ≤ 256 → keys_differ ps ≡ true → with_properties (in_order key_cmp ps) fields ≡ chosen ps fields)
+        → with_properties (in_order key_cmp qs) (field ∷ fields) ≡ chosen qs (field ∷ fields)
     by None is more = step-none qs field fields is
     by (Some p) is more = known (has_key p.0 qs) refl (nat_le 256 (length qs)) refl
       where
-        known : (t : Bool) → has_key p.0 qs ≡ t → (u : Bool) → nat_le 256 (length qs) ≡ u → gathered (in_order key_cmp qs) (field ∷ fields) ≡ chosen qs (field ∷ fields)
+        known : (t : Bool) → has_key p.0 qs ≡ t → (u : Bool) → nat_le 256 (length qs) ≡ u → with_properties (in_order key_cmp qs) (field ∷ fields) ≡ chosen qs (field ∷ fields)
         known true has u full = step-repeated qs field fields p is has
         known false has true full = step-full qs field fields p is has full
         known false has false room =
@@ -146,9 +146,9 @@ gathered-chosen (field ∷ fields) qs few differ = by (property_of field) refl (
             step-more qs field fields p is has room (more (qs ++ p ∷ []) under (keys_differ-more p qs has differ))
 
 -- what is gathered from the first field on
-pub gathered-properties_in : (fields : List (List ℕ)) → gathered [] fields ≡ properties_in fields
+pub with_properties-properties_in : (fields : List (List ℕ)) → with_properties [] fields ≡ properties_in fields
 unfolding fits chosen
-gathered-properties_in fields =
-    let all = gathered-chosen fields [] (omega arith) refl in
+with_properties-properties_in fields =
+    let all = with_properties-chosen fields [] (omega arith) refl in
     let size : 0 + length fields ≡ length fields = omega arith in
     rw size at all

@@ -6,13 +6,13 @@ use Rattle.graph_model.specs.declared.events.What.{What}
 use Rattle.graph_model.specs.declared.events.Event.{Event}
 use Rattle.graph_model.specs.Interval.{Interval, earliest, is_inside, latest}
 use Rattle.graph_model.specs.Refusal.{RecordRefusal, Outside}
-use Rattle.graph_model.specs.Said.{RecordKind, SaysBounds, kind_where, OfAddition, OfBounds, OfDeletion, OfType, OfUpdate, SaysEvent, addition_of, are_texts, bounds_from, deletion_of, event_at, field_of, kind_of, moment_inside, moment_of, row_of, said_as, said_by, type_said, update_of}
+use Rattle.graph_model.specs.Said.{RecordKind, SaysBounds, kind_where, OfAddition, OfBounds, OfDeletion, OfType, OfUpdate, SaysEvent, addition_of, are_texts, bounds_from, deletion_of, event_at, field_of, kind_of_record, moment_inside, moment_of, row_of, said_as, said_by, type_said, update_of}
 use Rattle.graph_model.specs.TextForm.{is_name}
 use Rattle.graph_model.specs.WholeNumber.{whole_of}
 use Rattle.event_rows.specs.declared.parsed.Parsed.{Parsed}
 use Rattle.event_rows.specs.declared.parsed.RowRefusal.{RowRefusal}
 use Rattle.event_rows.specs.declared.parsed.Parsed.TheVariants as parsed
-use Rattle.event_rows.specs.Parsing.{IsAtFront, IsWithin, said_of}
+use Rattle.event_rows.specs.Parsing.{IsAtFront, IsInsideBounds, said_of}
 
 -- the event of a moment inside bounds
 event_at-inside : (bounds : Interval) (at : Option (ℤ × ℕ)) (what : Result What RecordRefusal) (x : Event) → event_at (moment_inside bounds at) what ≡ Ok (SaysEvent x) → IsTrue (is_inside bounds x.time)
@@ -57,19 +57,19 @@ said_as-inside (Some kind) bounds fields x says = by (are_texts fields) refl
     by false is = cc (rw is at says)
 
 -- what a record says is within the bounds
-row_of_within : (first : Bool) (bounds : Interval) (fields : List (List ℕ)) (p : Parsed) → row_of first bounds fields ≡ Ok (said_of p) → IsWithin bounds p
+row_of_within : (first : Bool) (bounds : Interval) (fields : List (List ℕ)) (p : Parsed) → row_of first bounds fields ≡ Ok (said_of p) → IsInsideBounds bounds p
 row_of_within first bounds fields (parsed.Span i) says = tt
 row_of_within first bounds fields (parsed.NodeType node name) says = tt
-row_of_within first bounds fields (parsed.Event x) says = said_as-inside (kind_of first fields) bounds fields x says
+row_of_within first bounds fields (parsed.Event x) says = said_as-inside (kind_of_record first fields) bounds fields x says
 
 -- bounds are the kind of record 1 alone
 kind_where-bounds : (formed : Bool) (kind : RecordKind) → kind_where formed kind ≡ Some OfBounds → (kind ≡ OfBounds) × IsTrue formed
 kind_where-bounds true kind is = (cc is, refl)
 kind_where-bounds false kind is = cc is
 
-kind_of-front : (first : Bool) (fields : List (List ℕ)) → kind_of first fields ≡ Some OfBounds → IsTrue first
-kind_of-front true fields is = refl
-kind_of-front false fields is = by (bytes_eq (field_of fields 0) (codes "span")) (bytes_eq (field_of fields 0) (codes "type")) (bytes_eq (field_of fields 0) (codes "node")) (bytes_eq (field_of fields 0) (codes "edge")) (bytes_eq (field_of fields 0) (codes "delete")) is
+kind_of_record-front : (first : Bool) (fields : List (List ℕ)) → kind_of_record first fields ≡ Some OfBounds → IsTrue first
+kind_of_record-front true fields is = refl
+kind_of_record-front false fields is = by (bytes_eq (field_of fields 0) (codes "span")) (bytes_eq (field_of fields 0) (codes "type")) (bytes_eq (field_of fields 0) (codes "node")) (bytes_eq (field_of fields 0) (codes "edge")) (bytes_eq (field_of fields 0) (codes "delete")) is
   where
     by : (a b c d e : Bool)
         → (if a then kind_where (false && (length fields == 3)) OfBounds else (if b then kind_where (length fields == 3) OfType else (if c then kind_where (nat_le 3 (length fields)) OfUpdate
@@ -111,12 +111,12 @@ said_as-bounds (Some kind) bounds fields i says = by (are_texts fields) refl
 
 -- bounds that a record says are at the front
 row_of_front : (first : Bool) (bounds : Interval) (fields : List (List ℕ)) (p : Parsed) → row_of first bounds fields ≡ Ok (said_of p) → IsAtFront first p
-row_of_front first bounds fields (parsed.Span i) says = kind_of-front first fields (said_as-bounds (kind_of first fields) bounds fields i says)
+row_of_front first bounds fields (parsed.Span i) says = kind_of_record-front first fields (said_as-bounds (kind_of_record first fields) bounds fields i says)
 row_of_front first bounds fields (parsed.NodeType node name) says = tt
 row_of_front first bounds fields (parsed.Event x) says = tt
 
 -- so it is of all that a record may say
-pub all_within : (first : Bool) (bounds : Interval) (fields : List (List ℕ)) (read : Result Parsed RowRefusal) → IfOk read (λ p. row_of first bounds fields ≡ Ok (said_of p)) → IfOk read (λ p. IsWithin bounds p)
+pub all_within : (first : Bool) (bounds : Interval) (fields : List (List ℕ)) (read : Result Parsed RowRefusal) → IfOk read (λ p. row_of first bounds fields ≡ Ok (said_of p)) → IfOk read (λ p. IsInsideBounds bounds p)
 all_within first bounds fields (Ok p) says = row_of_within first bounds fields p says
 all_within first bounds fields (Err e) says = tt
 

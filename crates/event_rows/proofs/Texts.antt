@@ -10,7 +10,7 @@ use Rattle.graph_model.specs.declared.properties.Value.{Value}
 use Rattle.event_rows.specs.declared.parsed.RowRefusal.{RowRefusal}
 use Rattle.event_rows.specs.declared.parsed.RowRefusal.TheVariants as refused
 use Rattle.graph_model.specs.Said.{are_texts, field_of}
-use Rattle.event_rows.specs.Gathering.{gathered, on_some, put_field}
+use Rattle.event_rows.specs.Gathering.{with_properties, on_some, put_field}
 use Rattle.event_rows.specs.Parsing.{Lacks}
 
 -- each field of a text is text
@@ -40,9 +40,9 @@ pub texts-stop : (fields : List (List ℕ)) (i : ℕ) → i < length fields → 
 texts-stop fields i within other = rw (drop-field fields i within, other) refl
 
 -- the properties from a place on
-pub gathered-step : (props : List (List ℕ × Value)) (fields : List (List ℕ)) (i : ℕ) → i < length fields
-    → gathered props (drop i fields) ≡ on_some (put_field props (field_of fields i)) (λ more. gathered more (drop (i + 1) fields))
-gathered-step props fields i within = rw (drop-field fields i within) refl
+pub with_properties-step : (props : List (List ℕ × Value)) (fields : List (List ℕ)) (i : ℕ) → i < length fields
+    → with_properties props (drop i fields) ≡ on_some (put_field props (field_of fields i)) (λ more. with_properties more (drop (i + 1) fields))
+with_properties-step props fields i within = rw (drop-field fields i within) refl
 
 -- what refuses one property refuses them all
 pub lacks-all : {A B : Type 0} (e : RowRefusal) (one : Option A) (more : A → Option B) (all : Option B) → on_some one more ≡ all → Lacks e one → Lacks e all

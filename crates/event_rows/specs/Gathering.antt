@@ -19,6 +19,6 @@ on_some None more = None
 on_some (Some x) more = more x
 
 -- properties with those of further fields put in their places
-abbrev pub gathered : List (List ℕ × Value) → List (List ℕ) → Option (List (List ℕ × Value))
-gathered props [] = Some props
-gathered props (field ∷ fields) = on_some (put_field props field) (λ more. gathered more fields)
+abbrev pub with_properties : List (List ℕ × Value) → List (List ℕ) → Option (List (List ℕ × Value))
+with_properties props [] = Some props
+with_properties props (field ∷ fields) = on_some (put_field props field) (λ more. with_properties more fields)

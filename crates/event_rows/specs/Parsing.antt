@@ -18,10 +18,10 @@ said_of (parsed.Event event) = SaysEvent event
 said_of (parsed.NodeType node name) = SaysType node name
 
 -- an event that was parsed is inside bounds
-abbrev pub IsWithin : Interval → Parsed → Type 0
-IsWithin bounds (parsed.Event event) = IsTrue (is_inside bounds event.time)
-IsWithin bounds (parsed.Span _) = ⊤
-IsWithin bounds (parsed.NodeType _ _) = ⊤
+abbrev pub IsInsideBounds : Interval → Parsed → Type 0
+IsInsideBounds bounds (parsed.Event event) = IsTrue (is_inside bounds event.time)
+IsInsideBounds bounds (parsed.Span _) = ⊤
+IsInsideBounds bounds (parsed.NodeType _ _) = ⊤
 
 -- bounds that were parsed stand in record 1
 abbrev pub IsAtFront : Bool → Parsed → Type 0

@@ -2,7 +2,7 @@
 ghost use Rattle.std.specs.Prelude.{◌≡◌, Some, None, option_map, true, if◌then◌else◌};
 ghost use Rattle.std.specs.Str.{is_utf8};
 ghost use Rattle.csv.specs.Records.{fields_of};
-ghost use Rattle.graph_model.specs.Said.{are_order_digits, are_texts, field_of, kind_of, moment_of, moment_with, order_of};
+ghost use Rattle.graph_model.specs.Said.{are_order_digits, are_texts, field_of, kind_of_record, moment_of, moment_with, order_of};
 ghost use Rattle.graph_model.specs.TextForm.{is_name};
 ghost use Rattle.graph_model.specs.WholeNumber.{number_of};
 ghost use Rattle.event_rows.specs.Parsing.{record_kind};
@@ -60,7 +60,7 @@ pub fn text_at(fields: &ByteRecord, i: usize) -> &str
 }
 
 /// Whether a text can be a name.
-pub fn is_named(text: &str) -> bool
+pub fn can_be_name(text: &str) -> bool
     ensures { result ≡ is_name text.now }
 {
     !text.is_empty() && text.len() <= MOST_NAME_BYTES
@@ -75,7 +75,7 @@ fn kind_where(formed: bool, kind: RowKind) -> Option<RowKind>
 
 /// The kind of a record, where it has that kind's form; `first` says that it is record 1.
 pub fn kind(fields: &ByteRecord, first: bool) -> Option<RowKind>
-    ensures { option_map record_kind result ≡ kind_of first (fields_of fields.now) }
+    ensures { option_map record_kind result ≡ kind_of_record first (fields_of fields.now) }
 {
     let word = field(fields, 0);
     let len = fields.len();

@@ -4,9 +4,9 @@ ghost use Rattle.csv.specs.Records.{fields_of};
 ghost use Rattle.graph_model.specs.Said.{addition_of, are_texts, bounds_said, deletion_of, edge_of, field_of, moment_inside, moment_of, names_edge, props_from, row_of, said_by, type_said, update_of};
 ghost use Rattle.graph_model.specs.TextForm.{is_name};
 ghost use Rattle.event_rows.specs.Gathering.{put_field as put_field_of};
-ghost use Rattle.event_rows.specs.Parsing.{IsAtFront, IsRefused, IsWithin, Lacks, Refuses, record_kind, said_of};
+ghost use Rattle.event_rows.specs.Parsing.{IsAtFront, IsRefused, IsInsideBounds, Lacks, Refuses, record_kind, said_of};
 
-use crate::fields::{all_text, is_named, kind, read_moment, text_at};
+use crate::fields::{all_text, can_be_name, kind, read_moment, text_at};
 use crate::parsed::{Parsed, RowKind, RowRefusal};
 use csv::ByteRecord;
 use graph_model::{Bounds, EdgeName, Event, Name, NameFault, Props, PropsFault, What};
@@ -63,7 +63,9 @@ fn has_edge_names(fields: &ByteRecord) -> bool
     requires { are_texts (fields_of fields.now) ≡ true }
     ensures { result ≡ names_edge (fields_of fields.now) }
 {
-    is_named(text_at(fields, 2)) && is_named(text_at(fields, 3)) && is_named(text_at(fields, 4))
+    can_be_name(text_at(fields, 2))
+        && can_be_name(text_at(fields, 3))
+        && can_be_name(text_at(fields, 4))
 }
 
 // The edge that is named.
@@ -86,7 +88,7 @@ fn update(alloc: Global, fields: &ByteRecord) -> Result<What, RowRefusal>
     ensures refused { IfErr result (λ e. Refuses e (update_of (fields_of fields.now))) }
 {
     let node = text_at(fields, 2);
-    if !is_named(node) {
+    if !can_be_name(node) {
         return Err(RowRefusal::Name);
     }
     let node = name(alloc, node)?;
@@ -147,7 +149,7 @@ fn node_type(alloc: Global, fields: &ByteRecord) -> Result<Parsed, RowRefusal>
 {
     let node = text_at(fields, 1);
     let kind = text_at(fields, 2);
-    if !(is_named(node) && is_named(kind)) {
+    if !(can_be_name(node) && can_be_name(kind)) {
         return Err(RowRefusal::Name);
     }
     let node = name(alloc, node)?;
@@ -217,7 +219,7 @@ pub fn read_row(
     first: bool,
 ) -> Result<Parsed, RowRefusal>
     ensures said { IfOk result (λ parsed. row_of first bounds (fields_of fields.now) ≡ Ok (said_of parsed)) }
-    ensures inside { IfOk result (λ parsed. IsWithin bounds parsed) }
+    ensures inside { IfOk result (λ parsed. IsInsideBounds bounds parsed) }
     ensures front { IfOk result (λ parsed. IsAtFront first parsed) }
     ensures refused { IfErr result (λ e. Refuses e (row_of first bounds (fields_of fields.now))) }
 {

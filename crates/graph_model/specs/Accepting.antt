@@ -67,16 +67,16 @@ abbrev pub distinct : List (List ℕ) → ℕ
 distinct names = length (rising name_cmp names)
 
 -- what is counted
-pub data Counted : Type 0 where
-  Events : Counted
-  Nodes : Counted
-  Layers : Counted
-  NodeKeys : Counted
-  EdgeKeys : Counted
-  Types : Counted
+pub data Quantity : Type 0 where
+  Events : Quantity
+  Nodes : Quantity
+  Layers : Quantity
+  NodeKeys : Quantity
+  EdgeKeys : Quantity
+  Types : Quantity
 
 -- how many of it there are among events and types of nodes
-abbrev pub count_of : Counted → List Event → List (List ℕ × List ℕ) → ℕ
+abbrev pub count_of : Quantity → List Event → List (List ℕ × List ℕ) → ℕ
 count_of Events xs types = length xs
 count_of Nodes xs types = distinct (node_names xs types)
 count_of Layers xs types = distinct (layer_names xs)
@@ -85,7 +85,7 @@ count_of EdgeKeys xs types = distinct (key_names (edge_events xs))
 count_of Types xs types = distinct (type_names types)
 
 -- how many of it there may be
-abbrev pub limit_of : Counted → ℕ
+abbrev pub limit_of : Quantity → ℕ
 limit_of Events = most_events
 limit_of Nodes = most_nodes
 limit_of Layers = most_layers
@@ -94,16 +94,16 @@ limit_of EdgeKeys = most_keys
 limit_of Types = most_types
 
 -- whether there are too many of it
-abbrev pub is_over : List Event → List (List ℕ × List ℕ) → Counted → Bool
+abbrev pub is_over : List Event → List (List ℕ × List ℕ) → Quantity → Bool
 is_over xs types counted = nat_lt (limit_of counted) (count_of counted xs types)
 
 -- what is counted, in the order in which the limits are looked at
-abbrev pub all_counted : List Counted
-all_counted = Events ∷ Nodes ∷ Layers ∷ NodeKeys ∷ EdgeKeys ∷ Types ∷ []
+abbrev pub all_quantities : List Quantity
+all_quantities = Events ∷ Nodes ∷ Layers ∷ NodeKeys ∷ EdgeKeys ∷ Types ∷ []
 
 -- the first limit that is passed
-abbrev pub passed_limit : List Event → List (List ℕ × List ℕ) → Option Counted
-passed_limit xs types = find (is_over xs types) all_counted
+abbrev pub passed_limit : List Event → List (List ℕ × List ℕ) → Option Quantity
+passed_limit xs types = find (is_over xs types) all_quantities
 
 -- why an event is refused after accepted events and types, where it is
 abbrev pub event_refusal : Model → List Event → List (List ℕ × List ℕ) → Event → Option RecordRefusal

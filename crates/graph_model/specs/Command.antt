@@ -15,8 +15,8 @@ first_value option (name ∷ []) = None
 first_value option (name ∷ value ∷ words) = if bytes_eq name option then Some value else first_value option words
 
 -- that word, or an empty one where the option is not there
-abbrev pub value_of : List (List ℕ) → List ℕ → List ℕ
-value_of words option = unwrap_or (first_value option words) []
+abbrev pub option_value : List (List ℕ) → List ℕ → List ℕ
+option_value words option = unwrap_or (first_value option words) []
 
 -- the model that a word names
 abbrev pub model_of : List ℕ → Option Model
@@ -30,6 +30,6 @@ is_path (byte ∷ bytes) = not (byte == 45)
 -- the command that words are: six words, among which each of the three options has a value of its kind
 abbrev pub command : List (List ℕ) → Option Command
 command words =
-    if (length words == 6) && (is_path (value_of words (codes "--events")) && is_path (value_of words (codes "--script")))
-    then option_map (λ model. Files model (value_of words (codes "--events")) (value_of words (codes "--script"))) (model_of (value_of words (codes "--model")))
+    if (length words == 6) && (is_path (option_value words (codes "--events")) && is_path (option_value words (codes "--script")))
+    then option_map (λ model. Files model (option_value words (codes "--events")) (option_value words (codes "--script"))) (model_of (option_value words (codes "--model")))
     else None

@@ -13,9 +13,9 @@ use Rattle.graph_model.specs.Names.{name_cmp}
 use Rattle.graph_model.specs.Entity.{is_deletion, props_of}
 
 -- the events that stand after the last deletion
-abbrev pub live : List Event → List Event
-live [] = []
-live (x ∷ xs) = if list_any is_deletion (x ∷ xs) then live xs else (x ∷ xs)
+abbrev pub live_events : List Event → List Event
+live_events [] = []
+live_events (x ∷ xs) = if list_any is_deletion (x ∷ xs) then live_events xs else (x ∷ xs)
 
 -- the last value of a key among events, given in order
 abbrev pub last_value : List ℕ → List Event → Option Value
@@ -23,7 +23,7 @@ last_value key xs = last_or None (filter_map (λ x. prop_value key (props_of x))
 
 -- the value of a key for an entity, from the entity's events
 abbrev pub value_of : List ℕ → List Event → Option Value
-value_of key xs = last_value key (live xs)
+value_of key xs = last_value key (live_events xs)
 
 -- whether a comparison holds between values that compare so
 abbrev pub meets : Cmp → Ordering → Bool

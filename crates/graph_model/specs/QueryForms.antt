@@ -10,7 +10,7 @@ use Rattle.graph_model.specs.declared.queries.Each.{Each}
 use Rattle.graph_model.specs.declared.queries.Each.TheVariants.{Rolling, Expanding}
 use Rattle.graph_model.specs.declared.queries.Ask.{Ask}
 use Rattle.graph_model.specs.declared.queries.Ask.TheVariants.{Nodes, Edges, Events, Degree, Hops, Weak, OutComponent, InComponent, Core, CoreNumbers, Arrival, NodeHistory, EdgeHistory, NodeValue, EdgeValue, EdgeAlive, Materialise}
-use Rattle.graph_model.specs.QueryOutcome.{both, made}
+use Rattle.graph_model.specs.QueryOutcome.{both, map_outcome}
 use Rattle.graph_model.specs.QueryPlaces.{place, word_of, as_list, bound, moment, step, core_number, name, names, comparison, direction, value}
 use Rattle.graph_model.specs.Script.{QueryRefusal, Shape}
 
@@ -55,23 +55,23 @@ by_forms forms (Some items) = by_word forms (word_of items) items
 -- the views
 abbrev pub view_forms : Forms Op
 view_forms =
-    (codes "window", λ items. made (λ p. Window p.0 p.1) (two bound bound items))
-    ∷ (codes "at", λ items. made At (one moment items))
-    ∷ (codes "before", λ items. made Before (one bound items))
-    ∷ (codes "after", λ items. made After (one moment items))
-    ∷ (codes "layers", λ items. made Layers (one names items))
-    ∷ (codes "exclude_layers", λ items. made ExcludeLayers (one names items))
-    ∷ (codes "subgraph", λ items. made Subgraph (one names items))
-    ∷ (codes "exclude_nodes", λ items. made ExcludeNodes (one names items))
-    ∷ (codes "node_types", λ items. made NodeTypes (one names items))
-    ∷ (codes "edges_where", λ items. made (λ p. EdgesWhere p.0.0 p.0.1 p.1) (three name comparison value items))
-    ∷ (codes "nodes_where", λ items. made (λ p. NodesWhere p.0.0 p.0.1 p.1) (three name comparison value items))
+    (codes "window", λ items. map_outcome (λ p. Window p.0 p.1) (two bound bound items))
+    ∷ (codes "at", λ items. map_outcome At (one moment items))
+    ∷ (codes "before", λ items. map_outcome Before (one bound items))
+    ∷ (codes "after", λ items. map_outcome After (one moment items))
+    ∷ (codes "layers", λ items. map_outcome Layers (one names items))
+    ∷ (codes "exclude_layers", λ items. map_outcome ExcludeLayers (one names items))
+    ∷ (codes "subgraph", λ items. map_outcome Subgraph (one names items))
+    ∷ (codes "exclude_nodes", λ items. map_outcome ExcludeNodes (one names items))
+    ∷ (codes "node_types", λ items. map_outcome NodeTypes (one names items))
+    ∷ (codes "edges_where", λ items. map_outcome (λ p. EdgesWhere p.0.0 p.0.1 p.1) (three name comparison value items))
+    ∷ (codes "nodes_where", λ items. map_outcome (λ p. NodesWhere p.0.0 p.0.1 p.1) (three name comparison value items))
     ∷ (codes "valid", λ items. alone Valid items)
     ∷ []
 
 -- hops go outward where no direction is given
 abbrev pub hops : List Data → Result Ask QueryRefusal
-hops items = if length items == 2 then made (λ n. Hops n Outward) (one name items) else made (λ p. Hops p.0 p.1) (two name direction items)
+hops items = if length items == 2 then map_outcome (λ n. Hops n Outward) (one name items) else map_outcome (λ p. Hops p.0 p.1) (two name direction items)
 
 -- the questions
 abbrev pub ask_forms : Forms Ask
@@ -82,26 +82,26 @@ ask_forms =
     ∷ (codes "degree", λ items. alone Degree items)
     ∷ (codes "hops", hops)
     ∷ (codes "weak", λ items. alone Weak items)
-    ∷ (codes "out_component", λ items. made OutComponent (one name items))
-    ∷ (codes "in_component", λ items. made InComponent (one name items))
-    ∷ (codes "core", λ items. made Core (one core_number items))
+    ∷ (codes "out_component", λ items. map_outcome OutComponent (one name items))
+    ∷ (codes "in_component", λ items. map_outcome InComponent (one name items))
+    ∷ (codes "core", λ items. map_outcome Core (one core_number items))
     ∷ (codes "core_numbers", λ items. alone CoreNumbers items)
-    ∷ (codes "arrival", λ items. made (λ p. Arrival p.0 p.1) (two moment names items))
-    ∷ (codes "node_history", λ items. made NodeHistory (one name items))
-    ∷ (codes "edge_history", λ items. made (λ p. EdgeHistory (edge_from p)) (three name name name items))
-    ∷ (codes "node_value", λ items. made (λ p. NodeValue p.0 p.1) (two name name items))
-    ∷ (codes "edge_value", λ items. made (λ p. EdgeValue (edge_from p.0) p.1) (four name name name name items))
-    ∷ (codes "edge_alive", λ items. made (λ p. EdgeAlive (edge_from p.0) p.1) (four name name name moment items))
+    ∷ (codes "arrival", λ items. map_outcome (λ p. Arrival p.0 p.1) (two moment names items))
+    ∷ (codes "node_history", λ items. map_outcome NodeHistory (one name items))
+    ∷ (codes "edge_history", λ items. map_outcome (λ p. EdgeHistory (edge_from p)) (three name name name items))
+    ∷ (codes "node_value", λ items. map_outcome (λ p. NodeValue p.0 p.1) (two name name items))
+    ∷ (codes "edge_value", λ items. map_outcome (λ p. EdgeValue (edge_from p.0) p.1) (four name name name name items))
+    ∷ (codes "edge_alive", λ items. map_outcome (λ p. EdgeAlive (edge_from p.0) p.1) (four name name name moment items))
     ∷ (codes "materialise", λ items. alone Materialise items)
     ∷ []
 
 -- the width is the step too where no step is given
 abbrev pub rolling : List Data → Result Each QueryRefusal
-rolling items = if length items == 2 then made (λ w. Rolling w w) (one step items) else made (λ p. Rolling p.0 p.1) (two step step items)
+rolling items = if length items == 2 then map_outcome (λ w. Rolling w w) (one step items) else map_outcome (λ p. Rolling p.0 p.1) (two step step items)
 
 -- the windows
 abbrev pub each_forms : Forms Each
-each_forms = (codes "rolling", rolling) ∷ (codes "expanding", λ items. made Expanding (one step items)) ∷ []
+each_forms = (codes "rolling", rolling) ∷ (codes "expanding", λ items. map_outcome Expanding (one step items)) ∷ []
 
 -- what a value says as a view, as a question, and as windows
 abbrev pub view_said : Data → Result Op QueryRefusal

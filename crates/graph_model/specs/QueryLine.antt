@@ -10,7 +10,7 @@ use Rattle.graph_model.specs.declared.queries.Each.{Each}
 use Rattle.graph_model.specs.declared.queries.Op.{Op}
 use Rattle.graph_model.specs.declared.queries.Query.{Query}
 use Rattle.graph_model.specs.QueryForms.{ask_said, each_said, view_said}
-use Rattle.graph_model.specs.QueryOutcome.{all_of, both, made}
+use Rattle.graph_model.specs.QueryOutcome.{all_of, both, map_outcome}
 use Rattle.graph_model.specs.QueryPlaces.{as_list}
 use Rattle.graph_model.specs.Script.{QueryRefusal, Json, Shape, Depth}
 use Rattle.graph_model.specs.World.{World}
@@ -41,7 +41,7 @@ depth_of ds = if nat_le (length ds) 64 then Ok tt else Err Depth
 
 abbrev pub views_listed : Option (List Data) → Result (List Op) QueryRefusal
 views_listed None = Err Shape
-views_listed (Some ds) = made (λ p. p.0) (both (all_of view_said ds) (depth_of ds))
+views_listed (Some ds) = map_outcome (λ p. p.0) (both (all_of view_said ds) (depth_of ds))
 
 -- the views, which are none where they are missing
 abbrev pub views_in : Option Data → Result (List Op) QueryRefusal
@@ -51,7 +51,7 @@ views_in (Some d) = views_listed (as_list d)
 -- the windows, where there are some
 abbrev pub each_in : Option Data → Result (Option Each) QueryRefusal
 each_in None = Ok None
-each_in (Some d) = made Some (each_said d)
+each_in (Some d) = map_outcome Some (each_said d)
 
 abbrev pub query_from : (Ask × List Op) × Option Each → Query
 query_from p = record { ask = p.0.0; views = p.0.1; each = p.1 }
@@ -63,7 +63,7 @@ parts_said d = both (both (ask_in (get (codes "ask") d)) (views_in (get (codes "
 
 -- the query that a value says
 abbrev pub value_said : Data → Result Query QueryRefusal
-value_said d = if has_query_keys (as_object d) then made query_from (parts_said d) else Err Shape
+value_said d = if has_query_keys (as_object d) then map_outcome query_from (parts_said d) else Err Shape
 
 abbrev pub reading_said : Option Data → Result Query QueryRefusal
 reading_said None = Err Json

@@ -26,9 +26,9 @@ both (Err refusal) (Ok b) = Err refusal
 both (Err refusal) (Err other) = Err (first_refusal refusal other)
 
 -- what is made of a value, or its refusal
-abbrev pub made : {A B : Type 0} → (A → B) → Result A QueryRefusal → Result B QueryRefusal
-made make (Ok a) = Ok (make a)
-made make (Err refusal) = Err refusal
+abbrev pub map_outcome : {A B : Type 0} → (A → B) → Result A QueryRefusal → Result B QueryRefusal
+map_outcome make (Ok a) = Ok (make a)
+map_outcome make (Err refusal) = Err refusal
 
 -- a list with one value more at its end
 abbrev pub put_last : {A : Type 0} → List A × A → List A
@@ -36,7 +36,7 @@ put_last p = p.0 ++ p.1 ∷ []
 
 abbrev pub with_last : {A : Type 0} → Result (List A) QueryRefusal → Result A QueryRefusal
     → Result (List A) QueryRefusal
-with_last values value = made put_last (both values value)
+with_last values value = map_outcome put_last (both values value)
 
 -- what is read of each item, in order
 abbrev pub all_of : {A X : Type 0} → (X → Result A QueryRefusal) → List X

@@ -10,7 +10,7 @@ use Rattle.graph_model.specs.declared.queries.Cmp.{Cmp}
 use Rattle.graph_model.specs.declared.queries.Cmp.TheVariants.{Eq, Ne, Lt, Le, Gt, Ge}
 use Rattle.graph_model.specs.declared.queries.Direction.{Direction}
 use Rattle.graph_model.specs.declared.queries.Direction.TheVariants.{Outward, Inward, Both}
-use Rattle.graph_model.specs.QueryOutcome.{all_of, made}
+use Rattle.graph_model.specs.QueryOutcome.{all_of, map_outcome}
 use Rattle.graph_model.specs.Range.{is_bound, is_moment, is_step, is_core_number}
 use Rattle.graph_model.specs.Script.{QueryRefusal, Shape, Number}
 use Rattle.graph_model.specs.TextForm.{is_name_long, is_text_long}
@@ -110,7 +110,7 @@ direction d = meaning directions (text_of d)
 abbrev pub value : Data → Result Value QueryRefusal
 value null = Err Shape
 value (boolean b) = Ok (Flag b)
-value (number n) = made Int (held (as_i64 n))
+value (number n) = map_outcome Int (held (as_i64 n))
 value (string text) = if is_text_long text then Ok (Text text) else Err Shape
 value (array ds) = Err Shape
 value (object ms) = Err Shape

@@ -42,8 +42,8 @@ abbrev pub kind_where : Bool → RecordKind → Option RecordKind
 kind_where formed kind = if formed then Some kind else None
 
 -- the kind of a record, by its first field, where it has as many fields as that kind has; bounds are the first record alone
-abbrev pub kind_of : Bool → List (List ℕ) → Option RecordKind
-kind_of first fields = if bytes_eq (field_of fields 0) (codes "span") then kind_where (first && (length fields == 3)) OfBounds
+abbrev pub kind_of_record : Bool → List (List ℕ) → Option RecordKind
+kind_of_record first fields = if bytes_eq (field_of fields 0) (codes "span") then kind_where (first && (length fields == 3)) OfBounds
     else (if bytes_eq (field_of fields 0) (codes "type") then kind_where (length fields == 3) OfType
     else (if bytes_eq (field_of fields 0) (codes "node") then kind_where (nat_le 3 (length fields)) OfUpdate
     else (if bytes_eq (field_of fields 0) (codes "edge") then kind_where (nat_le 5 (length fields)) OfAddition
@@ -155,4 +155,4 @@ said_as (Some kind) bounds fields = if are_texts fields then said_by kind bounds
 
 -- what a record says, or the first refusal of its fields
 abbrev pub row_of : Bool → Interval → List (List ℕ) → Result Said RecordRefusal
-row_of first bounds fields = said_as (kind_of first fields) bounds fields
+row_of first bounds fields = said_as (kind_of_record first fields) bounds fields

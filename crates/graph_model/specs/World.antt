@@ -33,8 +33,8 @@ pub record World : Type 0 where
   pub types : List (List ℕ × List ℕ)
 
 -- whether events name a node: an update of it, or an edge with this end
-abbrev pub named : List Event → List ℕ → Bool
-named xs node = list_any (λ x. involves node (entity_of x)) xs
+abbrev pub names_node : List Event → List ℕ → Bool
+names_node xs node = list_any (λ x. involves node (entity_of x)) xs
 
 -- types, ordered by the node
 abbrev pub type_cmp : List ℕ × List ℕ → List ℕ × List ℕ → Ordering
@@ -50,7 +50,7 @@ type_of types node = option_map (λ (t : List ℕ × List ℕ). t.1) (find (λ (
 
 -- the types of nodes that events name
 abbrev pub types_in : List Event → List (List ℕ × List ℕ) → List (List ℕ × List ℕ)
-types_in xs types = filter (λ (t : List ℕ × List ℕ). named xs t.0) types
+types_in xs types = filter (λ (t : List ℕ × List ℕ). names_node xs t.0) types
 
 -- the events of an entity in a world, in order
 abbrev pub events_of : World → Entity → List Event
@@ -105,4 +105,4 @@ pub record IsLawful (w : World) : Type 0 where
   -- types rise strictly by node
   pub types_rise : Rises type_cmp w.types
   -- each is the type of a node that the list names
-  pub types_named : IsTrue (list_all (λ (t : List ℕ × List ℕ). named w.events t.0) w.types)
+  pub types_named : IsTrue (list_all (λ (t : List ℕ × List ℕ). names_node w.events t.0) w.types)

@@ -20,22 +20,22 @@ use Rattle.graph_model.specs.Names.{same_name}
 use Rattle.graph_model.specs.ValueKind.{value_type}
 use Rattle.graph_model.specs.Props.{prop_value}
 use Rattle.graph_model.specs.Entity.{entity_of, is_node, is_about, about, same_entity, props_of, involves}
-use Rattle.graph_model.specs.World.{named, type_of, arrange}
+use Rattle.graph_model.specs.World.{names_node, type_of, arrange}
 use Rattle.graph_model.specs.Accepting.{kept_type, node_events, edge_events, properties_of, layer_names, layers_in}
 use Rattle.time_history.specs.declared.updates.Update.{Update}
 use Rattle.time_history.specs.Updates.{placed, update_cmp}
-use Rattle.time_history.specs.Told.{event_told}
+use Rattle.time_history.specs.Telling.{event_told}
 use Rattle.graph_store.specs.declared.edges.EdgeParts.{EdgeParts}
-use Rattle.graph_store.specs.Parts.{parts_at}
+use Rattle.graph_store.specs.EdgeParts.{parts_at}
 use Rattle.graph_store.proofs.Listed.{list_any-place}
 use Rattle.graph_store.specs.Filed.{arrived, all_arrived, by_arrival}
 use Rattle.graph_store.specs.Keys.{type_in, with_keys, key_name}
-use Rattle.graph_store.specs.Told.{entity_at, updates_of_number, IsKept, AreTold}
-use Rattle.graph_store.specs.Taken.{with_history}
+use Rattle.graph_store.specs.Telling.{entity_at, updates_of_number, IsStoredUpdate, TellEvents}
+use Rattle.graph_store.specs.WithUpdate.{with_history}
 use Rattle.graph_store.specs.Contents.{Contents, AreContents, name_at, edge_name, node_entities, edge_entities}
 use Rattle.graph_store.proofs.KeyLaws.{type_in-with_keys, first_type, key_name-with_keys, length-with_keys}
 use Rattle.graph_store.proofs.FiledLaws.{HasOneMore, one_more-put, one_more-map, one_more-behind, all_arrived-set, all_arrived-push, all_arrived-below, both_below, arrived_more}
-use Rattle.graph_store.proofs.StoreLaws.{AreTold-other, AreTold-empty, AreTold-keys, AreTold-known, AreTold-new, all_arrived-same}
+use Rattle.graph_store.proofs.StoreLaws.{TellEvents-other, TellEvents-empty, TellEvents-keys, TellEvents-known, TellEvents-new, all_arrived-same}
 use Rattle.graph_store.proofs.AcceptNode.{or-nothing, or-swap, unnamed, filter-append, flat_map-last, prop_value-append, insert_key-has, name_at-insert, edge_entities-same, new_apart, about_none}
 
 filter_fails : (p : Event → Bool) (ys : List Event) → list_any p ys ≡ false → filter p ys ≡ []
@@ -50,19 +50,19 @@ length-insert_key names name = go (list_any (same_name name) names)
     go false = omega (arith, length_push names name)
 
 -- a node that is named leaves what is told
-pub AreTold-named : (names : ℕ → List ℕ) (n : ℕ) (nodes : List (List ℕ)) (updates : List (List Update)) (accepted : List Event) (name : List ℕ) → (list_any (same_name name) nodes ≡ false → named accepted name ≡ false)
-    → AreTold names n (node_entities nodes) updates accepted → AreTold names n (node_entities (insert_key same_name nodes name)) (with_history nodes name updates) accepted
-AreTold-named names n nodes updates accepted name fresh h = go (list_any (same_name name) nodes) refl
+pub TellEvents-names_node : (names : ℕ → List ℕ) (n : ℕ) (nodes : List (List ℕ)) (updates : List (List Update)) (accepted : List Event) (name : List ℕ) → (list_any (same_name name) nodes ≡ false → names_node accepted name ≡ false)
+    → TellEvents names n (node_entities nodes) updates accepted → TellEvents names n (node_entities (insert_key same_name nodes name)) (with_history nodes name updates) accepted
+TellEvents-names_node names n nodes updates accepted name fresh h = go (list_any (same_name name) nodes) refl
   where
-    go : (t : Bool) → list_any (same_name name) nodes ≡ t → AreTold names n (node_entities (cond t nodes (nodes ++ name ∷ []))) (cond t updates (updates ++ [] ∷ [])) accepted
+    go : (t : Bool) → list_any (same_name name) nodes ≡ t → TellEvents names n (node_entities (cond t nodes (nodes ++ name ∷ []))) (cond t updates (updates ++ [] ∷ [])) accepted
     go true e = h
     go false e =
-        subst (λ es. AreTold names n es (updates ++ [] ∷ []) accepted) (sym (map-append Node nodes (name ∷ [])))
-        (AreTold-empty names n (node_entities nodes) updates accepted (Node name) (new_apart nodes name e) (about_none name accepted (fresh e)) h)
+        subst (λ es. TellEvents names n es (updates ++ [] ∷ []) accepted) (sym (map-append Node nodes (name ∷ [])))
+        (TellEvents-empty names n (node_entities nodes) updates accepted (Node name) (new_apart nodes name e) (about_none name accepted (fresh e)) h)
 
-pub all_arrived-named : (names : ℕ → List ℕ) (nodes : List (List ℕ)) (updates : List (List Update)) (name : List ℕ) → length (node_entities nodes) ≡ length updates
+pub all_arrived-names_node : (names : ℕ → List ℕ) (nodes : List (List ℕ)) (updates : List (List Update)) (name : List ℕ) → length (node_entities nodes) ≡ length updates
     → all_arrived names (node_entities (insert_key same_name nodes name)) (with_history nodes name updates) ≡ all_arrived names (node_entities nodes) updates
-all_arrived-named names nodes updates name len = go (list_any (same_name name) nodes)
+all_arrived-names_node names nodes updates name len = go (list_any (same_name name) nodes)
   where
     go : (t : Bool) → all_arrived names (node_entities (cond t nodes (nodes ++ name ∷ []))) (cond t updates (updates ++ [] ∷ [])) ≡ all_arrived names (node_entities nodes) updates
     go true = refl
@@ -78,12 +78,12 @@ module _ (c : Contents) (node_updates edge_updates : List (List Update)) (h : Ar
   abbrev pub updates_after : List (List Update)
   updates_after = with_history (insert_key same_name c.nodes edge.src) edge.dst (with_history c.nodes edge.src node_updates)
 
-  pub known_nodes-edge : (n : List ℕ) → list_any (same_name n) nodes_after ≡ (named (c.accepted ++ x ∷ []) n || is_some (type_of c.types n))
+  pub known_nodes-edge : (n : List ℕ) → list_any (same_name n) nodes_after ≡ (names_node (c.accepted ++ x ∷ []) n || is_some (type_of c.types n))
   known_nodes-edge n =
       insert_key-has (insert_key same_name c.nodes edge.src) edge.dst n
-      ∙ (ap (λ t. t || same_name n edge.dst) (insert_key-has c.nodes edge.src n ∙ (ap (λ t. t || same_name n edge.src) (h.known_nodes n) ∙ or-swap (named c.accepted n) (is_some (type_of c.types n)) (same_name n edge.src)))
-      ∙ (or-swap (named c.accepted n || same_name n edge.src) (is_some (type_of c.types n)) (same_name n edge.dst)
-      ∙ sym (ap (λ t. t || is_some (type_of c.types n)) (list_any-append (λ y. involves n (entity_of y)) c.accepted (x ∷ []) ∙ (ap (λ e. named c.accepted n || (involves n e || false)) own ∙ regroup (named c.accepted n) (same_name n edge.src) (same_name n edge.dst))))))
+      ∙ (ap (λ t. t || same_name n edge.dst) (insert_key-has c.nodes edge.src n ∙ (ap (λ t. t || same_name n edge.src) (h.known_nodes n) ∙ or-swap (names_node c.accepted n) (is_some (type_of c.types n)) (same_name n edge.src)))
+      ∙ (or-swap (names_node c.accepted n || same_name n edge.src) (is_some (type_of c.types n)) (same_name n edge.dst)
+      ∙ sym (ap (λ t. t || is_some (type_of c.types n)) (list_any-append (λ y. involves n (entity_of y)) c.accepted (x ∷ []) ∙ (ap (λ e. names_node c.accepted n || (involves n e || false)) own ∙ regroup (names_node c.accepted n) (same_name n edge.src) (same_name n edge.dst))))))
     where
       regroup : (a b d : Bool) → (a || ((b || (d || false)) || false)) ≡ ((a || b) || d)
       regroup true b d = refl
@@ -115,19 +115,19 @@ module _ (c : Contents) (node_updates edge_updates : List (List Update)) (h : Ar
       ∙ (prop_value-append key (properties_of (edge_events c.accepted)) (props_of x)
       ∙ ap (λ ps. option_or (kept_type (edge_events c.accepted) key) (first_type key ps)) set))))
 
-  pub nodes_told-edge : AreTold (key_name c.node_keys) (length c.node_keys) (node_entities nodes_after) updates_after (c.accepted ++ x ∷ [])
+  pub nodes_told-edge : TellEvents (key_name c.node_keys) (length c.node_keys) (node_entities nodes_after) updates_after (c.accepted ++ x ∷ [])
   nodes_told-edge =
-      AreTold-other (key_name c.node_keys) (length c.node_keys) (node_entities nodes_after) updates_after c.accepted x
+      TellEvents-other (key_name c.node_keys) (length c.node_keys) (node_entities nodes_after) updates_after c.accepted x
       (λ i lt e. let k : entity_at (node_entities nodes_after) i ≡ Node (name_at nodes_after i) = get_or-map Node nodes_after i [] (Node []) (rw length-map at lt) in cc)
-      (AreTold-named (key_name c.node_keys) (length c.node_keys) (insert_key same_name c.nodes edge.src) (with_history c.nodes edge.src node_updates) c.accepted edge.dst
+      (TellEvents-names_node (key_name c.node_keys) (length c.node_keys) (insert_key same_name c.nodes edge.src) (with_history c.nodes edge.src node_updates) c.accepted edge.dst
       (λ e. unnamed c node_updates edge_updates h edge.dst (or_parts (list_any (same_name edge.dst) c.nodes) (same_name edge.dst edge.src) (sym (insert_key-has c.nodes edge.src edge.dst) ∙ e)).0)
-      (AreTold-named (key_name c.node_keys) (length c.node_keys) c.nodes node_updates c.accepted edge.src (unnamed c node_updates edge_updates h edge.src) h.nodes_told))
+      (TellEvents-names_node (key_name c.node_keys) (length c.node_keys) c.nodes node_updates c.accepted edge.src (unnamed c node_updates edge_updates h edge.src) h.nodes_told))
 
   pub nodes_arrived-edge : all_arrived (key_name c.node_keys) (node_entities nodes_after) updates_after ≡ all_arrived (key_name c.node_keys) (node_entities c.nodes) node_updates
   nodes_arrived-edge =
-      all_arrived-named (key_name c.node_keys) (insert_key same_name c.nodes edge.src) (with_history c.nodes edge.src node_updates) edge.dst
-      (AreTold-named (key_name c.node_keys) (length c.node_keys) c.nodes node_updates c.accepted edge.src (unnamed c node_updates edge_updates h edge.src) h.nodes_told).lengths
-      ∙ all_arrived-named (key_name c.node_keys) c.nodes node_updates edge.src h.nodes_told.lengths
+      all_arrived-names_node (key_name c.node_keys) (insert_key same_name c.nodes edge.src) (with_history c.nodes edge.src node_updates) edge.dst
+      (TellEvents-names_node (key_name c.node_keys) (length c.node_keys) c.nodes node_updates c.accepted edge.src (unnamed c node_updates edge_updates h edge.src) h.nodes_told).lengths
+      ∙ all_arrived-names_node (key_name c.node_keys) c.nodes node_updates edge.src h.nodes_told.lengths
 
   abbrev pub layers_after : List (List ℕ)
   layers_after = insert_key same_name c.layers edge.layer
@@ -151,9 +151,9 @@ module _ (c : Contents) (node_updates edge_updates : List (List Update)) (h : Ar
       (omega arith, omega arith, omega arith)
 
   -- the edges' histories, by the names of more keys
-  edges_before : AreTold (key_name (with_keys c.edge_keys props)) (length (with_keys c.edge_keys props)) (edge_entities c.nodes c.layers c.edges) edge_updates c.accepted
+  edges_before : TellEvents (key_name (with_keys c.edge_keys props)) (length (with_keys c.edge_keys props)) (edge_entities c.nodes c.layers c.edges) edge_updates c.accepted
   edges_before =
-      AreTold-keys (key_name c.edge_keys) (key_name (with_keys c.edge_keys props)) (length c.edge_keys) (length (with_keys c.edge_keys props)) (key_name-with_keys c.edge_keys props) (length-with_keys c.edge_keys props)
+      TellEvents-keys (key_name c.edge_keys) (key_name (with_keys c.edge_keys props)) (length c.edge_keys) (length (with_keys c.edge_keys props)) (key_name-with_keys c.edge_keys props) (length-with_keys c.edge_keys props)
       (edge_entities c.nodes c.layers c.edges) edge_updates c.accepted h.edges_told
 
   -- what had arrived
@@ -173,7 +173,7 @@ module _ (c : Contents) (node_updates edge_updates : List (List Update)) (h : Ar
   -- all parts but the edges and their histories
   after : (edges : List EdgeParts) (updates : List (List Update)) (entities : List Entity) → edge_entities nodes_after layers_after edges ≡ entities
       → HasOneMore (length c.accepted, x) (all_arrived (key_name (with_keys c.edge_keys props)) (edge_entities c.nodes c.layers c.edges) edge_updates) (all_arrived (key_name (with_keys c.edge_keys props)) entities updates)
-      → AreTold (key_name (with_keys c.edge_keys props)) (length (with_keys c.edge_keys props)) entities updates (c.accepted ++ x ∷ [])
+      → TellEvents (key_name (with_keys c.edge_keys props)) (length (with_keys c.edge_keys props)) entities updates (c.accepted ++ x ∷ [])
       → ((e : EdgeName) → list_any (same_entity (Edge e)) entities ≡ list_any (is_about (Edge e)) (c.accepted ++ x ∷ []))
       → ((e : ℕ) → e < length edges → ((parts_at edges e).src < length nodes_after) × ((parts_at edges e).dst < length nodes_after) × ((parts_at edges e).layer < length layers_after))
       → AreContents (record c { accepted = c.accepted ++ x ∷ []; nodes = nodes_after; layers = layers_after; edge_keys = with_keys c.edge_keys props; edges = edges }) updates_after updates
@@ -181,7 +181,7 @@ module _ (c : Contents) (node_updates edge_updates : List (List Update)) (h : Ar
     arrived = subst (λ es. by_arrival (all_arrived (key_name c.node_keys) (node_entities nodes_after) updates_after ++ all_arrived (key_name (with_keys c.edge_keys props)) es updates) ≡ c.accepted ++ x ∷ []) (sym are)
         (arrived_more c.accepted x _ _ (one_more-behind (length c.accepted, x) _ _ (all_arrived (key_name c.node_keys) (node_entities nodes_after) updates_after) one) before_below before_is);
     nodes_told = nodes_told-edge;
-    edges_told = subst (λ es. AreTold (key_name (with_keys c.edge_keys props)) (length (with_keys c.edge_keys props)) es updates (c.accepted ++ x ∷ [])) (sym are) tells;
+    edges_told = subst (λ es. TellEvents (key_name (with_keys c.edge_keys props)) (length (with_keys c.edge_keys props)) es updates (c.accepted ++ x ∷ [])) (sym are) tells;
     known_nodes = known_nodes-edge;
     known_layers = known_layers-edge;
     known_kinds = h.known_kinds;
@@ -192,7 +192,7 @@ module _ (c : Contents) (node_updates edge_updates : List (List Update)) (h : Ar
   }
 
   module _ (u : Update) (told : event_told (entity_of x) (key_name (with_keys c.edge_keys props)) u ≡ x)
-      (new : IsKept (entity_of x) (length (with_keys c.edge_keys props)) (length (c.accepted ++ x ∷ [])) u) (last : u.arrival ≡ length c.accepted) where
+      (new : IsStoredUpdate (entity_of x) (length (with_keys c.edge_keys props)) (length (c.accepted ++ x ∷ [])) u) (last : u.arrival ≡ length c.accepted) where
     at_last : ◌≡◌ {A = ℕ × Event} (u.arrival, event_told (entity_of x) (key_name (with_keys c.edge_keys props)) u) (length c.accepted, x)
     at_last = λ k. (last k, told k)
 
@@ -207,7 +207,7 @@ module _ (c : Contents) (node_updates edge_updates : List (List Update)) (h : Ar
         after c.edges (slice_set edge_updates i (placed u (updates_of_number edge_updates i))) (edge_entities c.nodes c.layers c.edges) edges-same
         (subst (λ q. HasOneMore q (all_arrived (key_name (with_keys c.edge_keys props)) (edge_entities c.nodes c.layers c.edges) edge_updates) (all_arrived (key_name (with_keys c.edge_keys props)) (edge_entities c.nodes c.layers c.edges) (slice_set edge_updates i (placed u (updates_of_number edge_updates i))))) at_last
         (all_arrived-set (key_name (with_keys c.edge_keys props)) (edge_entities c.nodes c.layers c.edges) edge_updates i (placed u (updates_of_number edge_updates i)) (entity_of x) (u.arrival, event_told (entity_of x) (key_name (with_keys c.edge_keys props)) u) edges_before.lengths (subst (λ k. i < k) edges_before.lengths in_entities) (at (entity_of x)) one))
-        (AreTold-known (key_name (with_keys c.edge_keys props)) (length (with_keys c.edge_keys props)) (edge_entities c.nodes c.layers c.edges) edge_updates c.accepted x i u in_entities (at (Node [])) told new edges_before)
+        (TellEvents-known (key_name (with_keys c.edge_keys props)) (length (with_keys c.edge_keys props)) (edge_entities c.nodes c.layers c.edges) edge_updates c.accepted x i u in_entities (at (Node [])) told new edges_before)
         (λ e. absorbed (list_any (same_entity (Edge e)) (edge_entities c.nodes c.layers c.edges)) (is_about (Edge e) x)
         (λ s. list_any-place (same_entity (Edge e)) (edge_entities c.nodes c.layers c.edges) i (Node []) in_entities (ap (same_entity (Edge e)) (at (Node [])) ∙ s))
         ∙ (ap (λ t. t || is_about (Edge e) x) (h.known_edges e)
@@ -236,7 +236,7 @@ module _ (c : Contents) (node_updates edge_updates : List (List Update)) (h : Ar
           was = sym (append-nil (all_arrived (key_name (with_keys c.edge_keys props)) (edge_entities c.nodes c.layers c.edges) edge_updates));
           is = all_arrived-push (key_name (with_keys c.edge_keys props)) (edge_entities c.nodes c.layers c.edges) edge_updates (entity_of x) (u ∷ []) edges_before.lengths;
         }))
-        (AreTold-new (key_name (with_keys c.edge_keys props)) (length (with_keys c.edge_keys props)) (edge_entities c.nodes c.layers c.edges) edge_updates c.accepted x u
+        (TellEvents-new (key_name (with_keys c.edge_keys props)) (length (with_keys c.edge_keys props)) (edge_entities c.nodes c.layers c.edges) edge_updates c.accepted x u
         (λ i lt e. true≢false (sym (list_any-place (same_entity (Edge edge)) (edge_entities c.nodes c.layers c.edges) i (Node []) lt (ap (same_entity (Edge edge)) (e ∙ own) ∙ same_entity-refl (Edge edge))) ∙ absent))
         (ap (λ w. about w (arrange c.accepted)) own ∙ (about-arrange (Edge edge) c.accepted ∙ ap arrange (filter_fails (is_about (Edge edge)) c.accepted (sym (h.known_edges edge) ∙ absent))))
         told new edges_before)

@@ -18,23 +18,23 @@ use Rattle.graph_model.specs.Names.{same_name}
 use Rattle.graph_model.specs.ValueKind.{value_type}
 use Rattle.graph_model.specs.Props.{prop_value}
 use Rattle.graph_model.specs.Entity.{entity_of, is_node, is_about, about, same_entity, props_of, involves}
-use Rattle.graph_model.specs.World.{named, type_of, arrange}
+use Rattle.graph_model.specs.World.{names_node, type_of, arrange}
 use Rattle.graph_model.specs.Accepting.{kept_type, node_events, edge_events, properties_of, layer_names, layers_in}
 use Rattle.world_laws.proofs.Order.{same_name-refl, same_name-exact, same_entity-exact}
 use Rattle.time_history.specs.declared.updates.Update.{Update}
 use Rattle.time_history.specs.Updates.{placed, update_cmp}
-use Rattle.time_history.specs.Told.{event_told}
+use Rattle.time_history.specs.Telling.{event_told}
 use Rattle.graph_store.specs.Filed.{arrived, all_arrived, by_arrival}
 use Rattle.graph_store.proofs.Listed.{list_any-place}
 use Rattle.graph_store.proofs.FiledLaws.{HasOneMore, one_more-put, one_more-map, one_more-append, all_arrived-set, all_arrived-push, all_arrived-below, both_below, arrived_more}
 use Rattle.graph_store.specs.declared.edges.EdgeParts.{EdgeParts}
-use Rattle.graph_store.specs.Parts.{parts_at}
+use Rattle.graph_store.specs.EdgeParts.{parts_at}
 use Rattle.graph_store.specs.Keys.{type_in, with_keys, key_name}
-use Rattle.graph_store.specs.Told.{entity_at, updates_of_number, IsKept, AreTold}
+use Rattle.graph_store.specs.Telling.{entity_at, updates_of_number, IsStoredUpdate, TellEvents}
 use Rattle.graph_store.specs.Contents.{Contents, AreContents, name_at, edge_name, node_entities, edge_entities}
-use Rattle.graph_store.specs.Accepted.{node_event}
+use Rattle.graph_store.specs.WithEvent.{node_event}
 use Rattle.graph_store.proofs.KeyLaws.{type_in-with_keys, first_type, key_name-with_keys, length-with_keys}
-use Rattle.graph_store.proofs.StoreLaws.{AreTold-other, AreTold-keys, AreTold-known, AreTold-new, all_arrived-same}
+use Rattle.graph_store.proofs.StoreLaws.{TellEvents-other, TellEvents-keys, TellEvents-known, TellEvents-new, all_arrived-same}
 
 pub filter-append : {X : Type 0} (p : X → Bool) (xs ys : List X) → filter p (xs ++ ys) ≡ filter p xs ++ filter p ys
 filter-append p [] ys = refl
@@ -93,15 +93,15 @@ edge_entities-same nodes nodes' layers layers' (p ∷ edges) same_nodes same_lay
 pub node_named : (nodes : List (List ℕ)) (i : ℕ) (name : List ℕ) → i < length nodes → entity_at (node_entities nodes) i ≡ Node name → name_at nodes i ≡ name
 node_named nodes i name lt e = let k : entity_at (node_entities nodes) i ≡ Node (name_at nodes i) = get_or-map Node nodes i [] (Node []) lt in cc
 
-filter_none : (name : List ℕ) (ys : List Event) → named ys name ≡ false → filter (is_about (Node name)) ys ≡ []
+filter_none : (name : List ℕ) (ys : List Event) → names_node ys name ≡ false → filter (is_about (Node name)) ys ≡ []
 filter_none name [] e = refl
 filter_none name (y ∷ ys) e =
-    let parts = or_parts (involves name (entity_of y)) (named ys name) e in
+    let parts = or_parts (involves name (entity_of y)) (names_node ys name) e in
     ap (λ t. cond t (y ∷ filter (is_about (Node name)) ys) (filter (is_about (Node name)) ys)) (false_from_ne_true (is_about (Node name) y) (λ s. true≢false (sym (ap (involves name) (sym (same_entity-exact (Node name) (entity_of y) s)) ∙ or_left (same_name name name) false (same_name-refl name)) ∙ parts.0)))
     ∙ filter_none name ys parts.1
 
 -- a node that no event names has no event
-pub about_none : (name : List ℕ) (ys : List Event) → named ys name ≡ false → about (Node name) (arrange ys) ≡ []
+pub about_none : (name : List ℕ) (ys : List Event) → names_node ys name ≡ false → about (Node name) (arrange ys) ≡ []
 about_none name ys e = about-arrange (Node name) ys ∙ ap arrange (filter_none name ys e)
 
 -- a new node is none of those that are there
@@ -109,16 +109,16 @@ pub new_apart : (nodes : List (List ℕ)) (name : List ℕ) → list_any (same_n
 new_apart nodes name absent i lt e = true≢false (sym (list_any-place (same_name name) nodes i [] (rw length-map at lt) (subst (λ m. same_name name m ≡ true) (sym (node_named nodes i name (rw length-map at lt) e)) (same_name-refl name))) ∙ absent)
 
 -- a node that has no number is in no event
-pub unnamed : (c : Contents) (node_updates edge_updates : List (List Update)) → AreContents c node_updates edge_updates → (name : List ℕ) → list_any (same_name name) c.nodes ≡ false → named c.accepted name ≡ false
-unnamed c node_updates edge_updates h name e = (or_parts (named c.accepted name) (is_some (type_of c.types name)) (sym (h.known_nodes name) ∙ e)).0
+pub unnamed : (c : Contents) (node_updates edge_updates : List (List Update)) → AreContents c node_updates edge_updates → (name : List ℕ) → list_any (same_name name) c.nodes ≡ false → names_node c.accepted name ≡ false
+unnamed c node_updates edge_updates h name e = (or_parts (names_node c.accepted name) (is_some (type_of c.types name)) (sym (h.known_nodes name) ∙ e)).0
 
 module _ (c : Contents) (node_updates edge_updates : List (List Update)) (h : AreContents c node_updates edge_updates) (time : ℤ) (order : ℕ) (name : List ℕ) (props : List (List ℕ × Value)) where
-  pub known_nodes-node : (n : List ℕ) → list_any (same_name n) (insert_key same_name c.nodes name) ≡ (named (c.accepted ++ node_event time order name props ∷ []) n || is_some (type_of c.types n))
+  pub known_nodes-node : (n : List ℕ) → list_any (same_name n) (insert_key same_name c.nodes name) ≡ (names_node (c.accepted ++ node_event time order name props ∷ []) n || is_some (type_of c.types n))
   known_nodes-node n =
       insert_key-has c.nodes name n
       ∙ (ap (λ t. t || same_name n name) (h.known_nodes n)
-      ∙ (or-swap (named c.accepted n) (is_some (type_of c.types n)) (same_name n name)
-      ∙ sym (ap (λ t. t || is_some (type_of c.types n)) (list_any-append (λ y. involves n (entity_of y)) c.accepted (node_event time order name props ∷ []) ∙ ap (λ t. named c.accepted n || t) (or-nothing (same_name n name || false) ∙ or-nothing (same_name n name))))))
+      ∙ (or-swap (names_node c.accepted n) (is_some (type_of c.types n)) (same_name n name)
+      ∙ sym (ap (λ t. t || is_some (type_of c.types n)) (list_any-append (λ y. involves n (entity_of y)) c.accepted (node_event time order name props ∷ []) ∙ ap (λ t. names_node c.accepted n || t) (or-nothing (same_name n name || false) ∙ or-nothing (same_name n name))))))
 
   pub known_layers-node : (n : List ℕ) → list_any (same_name n) c.layers ≡ list_any (same_name n) (layer_names (c.accepted ++ node_event time order name props ∷ []))
   known_layers-node n = h.known_layers n ∙ sym (ap (list_any (same_name n)) (flat_map-last (λ y. layers_in (entity_of y)) c.accepted (node_event time order name props) ∙ append-nil (layer_names c.accepted)))
@@ -143,10 +143,10 @@ module _ (c : Contents) (node_updates edge_updates : List (List Update)) (h : Ar
       ∙ (h.known_edges edge
       ∙ sym (list_any-append (is_about (Edge edge)) c.accepted (node_event time order name props ∷ []) ∙ or-nothing (list_any (is_about (Edge edge)) c.accepted)))
 
-  pub edges_told-node : AreTold (key_name c.edge_keys) (length c.edge_keys) (edge_entities (insert_key same_name c.nodes name) c.layers c.edges) edge_updates (c.accepted ++ node_event time order name props ∷ [])
+  pub edges_told-node : TellEvents (key_name c.edge_keys) (length c.edge_keys) (edge_entities (insert_key same_name c.nodes name) c.layers c.edges) edge_updates (c.accepted ++ node_event time order name props ∷ [])
   edges_told-node =
-      subst (λ es. AreTold (key_name c.edge_keys) (length c.edge_keys) es edge_updates (c.accepted ++ node_event time order name props ∷ [])) (sym edges-same)
-      (AreTold-other (key_name c.edge_keys) (length c.edge_keys) (edge_entities c.nodes c.layers c.edges) edge_updates c.accepted (node_event time order name props) no_node h.edges_told)
+      subst (λ es. TellEvents (key_name c.edge_keys) (length c.edge_keys) es edge_updates (c.accepted ++ node_event time order name props ∷ [])) (sym edges-same)
+      (TellEvents-other (key_name c.edge_keys) (length c.edge_keys) (edge_entities c.nodes c.layers c.edges) edge_updates c.accepted (node_event time order name props) no_node h.edges_told)
     where
       no_node : (i : ℕ) → i < length (edge_entities c.nodes c.layers c.edges) → entity_at (edge_entities c.nodes c.layers c.edges) i ≡ Node name → ⊥
       no_node i lt e =
@@ -154,14 +154,14 @@ module _ (c : Contents) (node_updates edge_updates : List (List Update)) (h : Ar
           cc
 
   module _ (u : Update) (told : event_told (Node name) (key_name (with_keys c.node_keys props)) u ≡ node_event time order name props)
-      (new : IsKept (Node name) (length (with_keys c.node_keys props)) (length (c.accepted ++ node_event time order name props ∷ [])) u) (last : u.arrival ≡ length c.accepted) where
+      (new : IsStoredUpdate (Node name) (length (with_keys c.node_keys props)) (length (c.accepted ++ node_event time order name props ∷ [])) u) (last : u.arrival ≡ length c.accepted) where
     names : ℕ → List ℕ
     names = key_name (with_keys c.node_keys props)
 
     -- the nodes' histories, by the names of more keys
-    nodes_before : AreTold (key_name (with_keys c.node_keys props)) (length (with_keys c.node_keys props)) (node_entities c.nodes) node_updates c.accepted
+    nodes_before : TellEvents (key_name (with_keys c.node_keys props)) (length (with_keys c.node_keys props)) (node_entities c.nodes) node_updates c.accepted
     nodes_before =
-        AreTold-keys (key_name c.node_keys) (key_name (with_keys c.node_keys props)) (length c.node_keys) (length (with_keys c.node_keys props)) (key_name-with_keys c.node_keys props) (length-with_keys c.node_keys props)
+        TellEvents-keys (key_name c.node_keys) (key_name (with_keys c.node_keys props)) (length c.node_keys) (length (with_keys c.node_keys props)) (key_name-with_keys c.node_keys props) (length-with_keys c.node_keys props)
         (node_entities c.nodes) node_updates c.accepted h.nodes_told
 
     -- what had arrived
@@ -183,14 +183,14 @@ module _ (c : Contents) (node_updates edge_updates : List (List Update)) (h : Ar
     -- all parts but the nodes and their histories
     after : (nodes : List (List ℕ)) (updates : List (List Update)) → insert_key same_name c.nodes name ≡ nodes
         → by_arrival (all_arrived (key_name (with_keys c.node_keys props)) (node_entities nodes) updates ++ all_arrived (key_name c.edge_keys) (edge_entities c.nodes c.layers c.edges) edge_updates) ≡ c.accepted ++ node_event time order name props ∷ []
-        → AreTold (key_name (with_keys c.node_keys props)) (length (with_keys c.node_keys props)) (node_entities nodes) updates (c.accepted ++ node_event time order name props ∷ [])
+        → TellEvents (key_name (with_keys c.node_keys props)) (length (with_keys c.node_keys props)) (node_entities nodes) updates (c.accepted ++ node_event time order name props ∷ [])
         → length c.nodes ≤ length nodes
         → AreContents (record c { accepted = c.accepted ++ node_event time order name props ∷ []; nodes = nodes; node_keys = with_keys c.node_keys props }) updates edge_updates
     after nodes updates is arrives tells more = record {
       arrived = subst (λ es. by_arrival (all_arrived (key_name (with_keys c.node_keys props)) (node_entities nodes) updates ++ all_arrived (key_name c.edge_keys) es edge_updates) ≡ c.accepted ++ node_event time order name props ∷ []) (sym (subst (λ ns. edge_entities ns c.layers c.edges ≡ edge_entities c.nodes c.layers c.edges) is edges-same)) arrives;
       nodes_told = tells;
-      edges_told = subst (λ ns. AreTold (key_name c.edge_keys) (length c.edge_keys) (edge_entities ns c.layers c.edges) edge_updates (c.accepted ++ node_event time order name props ∷ [])) is edges_told-node;
-      known_nodes = λ n. subst (λ ns. list_any (same_name n) ns ≡ (named (c.accepted ++ node_event time order name props ∷ []) n || is_some (type_of c.types n))) is (known_nodes-node n);
+      edges_told = subst (λ ns. TellEvents (key_name c.edge_keys) (length c.edge_keys) (edge_entities ns c.layers c.edges) edge_updates (c.accepted ++ node_event time order name props ∷ [])) is edges_told-node;
+      known_nodes = λ n. subst (λ ns. list_any (same_name n) ns ≡ (names_node (c.accepted ++ node_event time order name props ∷ []) n || is_some (type_of c.types n))) is (known_nodes-node n);
       known_layers = known_layers-node;
       known_kinds = h.known_kinds;
       known_edges = λ edge. subst (λ ns. list_any (same_entity (Edge edge)) (edge_entities ns c.layers c.edges) ≡ list_any (is_about (Edge edge)) (c.accepted ++ node_event time order name props ∷ [])) is (known_edges-node edge);
@@ -214,7 +214,7 @@ module _ (c : Contents) (node_updates edge_updates : List (List Update)) (h : Ar
         (subst (λ q. HasOneMore q (all_arrived (key_name (with_keys c.node_keys props)) (node_entities c.nodes) node_updates) (all_arrived (key_name (with_keys c.node_keys props)) (node_entities c.nodes) (slice_set node_updates i (placed u (updates_of_number node_updates i))))) at_last
         (all_arrived-set (key_name (with_keys c.node_keys props)) (node_entities c.nodes) node_updates i (placed u (updates_of_number node_updates i)) (Node name) (u.arrival, event_told (Node name) (key_name (with_keys c.node_keys props)) u) nodes_before.lengths (subst (λ k. i < k) nodes_before.lengths in_entities) (get_or-map Node c.nodes i [] (Node name) lt ∙ ap Node here) one)))
         before_below before_is)
-        (AreTold-known (key_name (with_keys c.node_keys props)) (length (with_keys c.node_keys props)) (node_entities c.nodes) node_updates c.accepted (node_event time order name props) i u in_entities at told new nodes_before)
+        (TellEvents-known (key_name (with_keys c.node_keys props)) (length (with_keys c.node_keys props)) (node_entities c.nodes) node_updates c.accepted (node_event time order name props) i u in_entities at told new nodes_before)
         (omega arith)
 
     -- a new node begins its history with the update
@@ -235,8 +235,8 @@ module _ (c : Contents) (node_updates edge_updates : List (List Update)) (h : Ar
           is = ap (λ es. all_arrived (key_name (with_keys c.node_keys props)) es (node_updates ++ (u ∷ []) ∷ [])) entities ∙ all_arrived-push (key_name (with_keys c.node_keys props)) (node_entities c.nodes) node_updates (Node name) (u ∷ []) nodes_before.lengths;
         })))
         before_below before_is)
-        (subst (λ es. AreTold (key_name (with_keys c.node_keys props)) (length (with_keys c.node_keys props)) es (node_updates ++ (u ∷ []) ∷ []) (c.accepted ++ node_event time order name props ∷ [])) (sym entities)
-        (AreTold-new (key_name (with_keys c.node_keys props)) (length (with_keys c.node_keys props)) (node_entities c.nodes) node_updates c.accepted (node_event time order name props) u
+        (subst (λ es. TellEvents (key_name (with_keys c.node_keys props)) (length (with_keys c.node_keys props)) es (node_updates ++ (u ∷ []) ∷ []) (c.accepted ++ node_event time order name props ∷ [])) (sym entities)
+        (TellEvents-new (key_name (with_keys c.node_keys props)) (length (with_keys c.node_keys props)) (node_entities c.nodes) node_updates c.accepted (node_event time order name props) u
         (new_apart c.nodes name absent)
         (about_none name c.accepted (unnamed c node_updates edge_updates h name absent)) told new nodes_before))
         (omega arith)

@@ -9,17 +9,17 @@ use Rattle.graph_model.specs.declared.events.Entity.TheVariants.{Edge}
 use Rattle.graph_model.specs.Names.{same_name}
 use Rattle.graph_model.specs.Rising.{Rises}
 use Rattle.graph_model.specs.Entity.{same_entity}
-use Rattle.graph_model.specs.World.{named, type_cmp, type_of, put_type}
+use Rattle.graph_model.specs.World.{names_node, type_cmp, type_of, put_type}
 use Rattle.graph_model.specs.Accepting.{type_names}
 use Rattle.time_history.specs.declared.updates.Update.{Update}
 use Rattle.graph_store.specs.Filed.{all_arrived, by_arrival}
 use Rattle.graph_store.specs.Keys.{key_name}
-use Rattle.graph_store.specs.Told.{AreTold}
-use Rattle.graph_store.specs.Taken.{with_history}
+use Rattle.graph_store.specs.Telling.{TellEvents}
+use Rattle.graph_store.specs.WithUpdate.{with_history}
 use Rattle.graph_store.specs.Contents.{Contents, AreContents, edge_entities}
 use Rattle.graph_store.specs.WithType.{with_type}
 use Rattle.graph_store.proofs.AcceptNode.{insert_key-has, name_at-insert, edge_entities-same, unnamed}
-use Rattle.graph_store.proofs.AcceptEdge.{length-insert_key, AreTold-named, all_arrived-named}
+use Rattle.graph_store.proofs.AcceptEdge.{length-insert_key, TellEvents-names_node, all_arrived-names_node}
 use Rattle.graph_store.proofs.TypeLaws.{type_of-put, any-put_type}
 
 named_type : (p : List ℕ → Bool) (types : List (List ℕ × List ℕ)) → list_any p (type_names types) ≡ list_any (λ (t : List ℕ × List ℕ). p t.1) types
@@ -32,12 +32,12 @@ some_either None false kind = refl
 some_either (Some x) b kind = refl
 
 module _ (c : Contents) (node_updates edge_updates : List (List Update)) (h : AreContents c node_updates edge_updates) (rises : Rises type_cmp c.types) (node kind : List ℕ) where
-  known_nodes-type : (n : List ℕ) → list_any (same_name n) (insert_key same_name c.nodes node) ≡ (named c.accepted n || is_some (type_of (put_type (node, kind) c.types) n))
+  known_nodes-type : (n : List ℕ) → list_any (same_name n) (insert_key same_name c.nodes node) ≡ (names_node c.accepted n || is_some (type_of (put_type (node, kind) c.types) n))
   known_nodes-type n =
       insert_key-has c.nodes node n
       ∙ (ap (λ t. t || same_name n node) (h.known_nodes n)
-      ∙ (or_assoc (named c.accepted n) (is_some (type_of c.types n)) (same_name n node)
-      ∙ ap (λ t. named c.accepted n || t) (sym (ap is_some (type_of-put (node, kind) c.types n rises) ∙ some_either (type_of c.types n) (same_name n node) kind))))
+      ∙ (or_assoc (names_node c.accepted n) (is_some (type_of c.types n)) (same_name n node)
+      ∙ ap (λ t. names_node c.accepted n || t) (sym (ap is_some (type_of-put (node, kind) c.types n rises) ∙ some_either (type_of c.types n) (same_name n node) kind))))
 
   known_kinds-type : type_of c.types node ≡ None → (n : List ℕ) → list_any (same_name n) (insert_key same_name c.kinds kind) ≡ list_any (same_name n) (type_names (put_type (node, kind) c.types))
   known_kinds-type absent n =
@@ -51,9 +51,9 @@ module _ (c : Contents) (node_updates edge_updates : List (List Update)) (h : Ar
   -- a type for a node that has none
   pub AreContents-typed : type_of c.types node ≡ None → AreContents (with_type c node kind) (with_history c.nodes node node_updates) edge_updates
   AreContents-typed absent = record {
-    arrived = (λ k. by_arrival (all_arrived-named (key_name c.node_keys) c.nodes node_updates node h.nodes_told.lengths k ++ all_arrived (key_name c.edge_keys) (edges-same k) edge_updates)) ∙ h.arrived;
-    nodes_told = AreTold-named (key_name c.node_keys) (length c.node_keys) c.nodes node_updates c.accepted node (unnamed c node_updates edge_updates h node) h.nodes_told;
-    edges_told = subst (λ es. AreTold (key_name c.edge_keys) (length c.edge_keys) es edge_updates c.accepted) (sym edges-same) h.edges_told;
+    arrived = (λ k. by_arrival (all_arrived-names_node (key_name c.node_keys) c.nodes node_updates node h.nodes_told.lengths k ++ all_arrived (key_name c.edge_keys) (edges-same k) edge_updates)) ∙ h.arrived;
+    nodes_told = TellEvents-names_node (key_name c.node_keys) (length c.node_keys) c.nodes node_updates c.accepted node (unnamed c node_updates edge_updates h node) h.nodes_told;
+    edges_told = subst (λ es. TellEvents (key_name c.edge_keys) (length c.edge_keys) es edge_updates c.accepted) (sym edges-same) h.edges_told;
     known_nodes = known_nodes-type;
     known_layers = h.known_layers;
     known_kinds = known_kinds-type absent;

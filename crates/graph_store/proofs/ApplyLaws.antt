@@ -16,14 +16,14 @@ use Rattle.graph_model.specs.Refusal.{Deletion, KeyType, Limit}
 use Rattle.graph_model.specs.declared.events.Entity.TheVariants.{Edge}
 use Rattle.graph_model.specs.Entity.{subject, what_props, entity_of, props_of}
 use Rattle.graph_model.specs.World.{allows}
-use Rattle.graph_model.specs.Accepting.{Counted, Events, Nodes, Layers, NodeKeys, EdgeKeys, Types, count_of, limit_of, is_over, all_counted, mistyped, passed_limit, event_refusal}
+use Rattle.graph_model.specs.Accepting.{Quantity, Events, Nodes, Layers, NodeKeys, EdgeKeys, Types, count_of, limit_of, is_over, all_quantities, mistyped, passed_limit, event_refusal}
 use Rattle.time_history.specs.declared.updates.Update.{Update}
 use Rattle.graph_store.specs.declared.judging.Totals.{Totals}
-use Rattle.graph_store.specs.Judged.{total_of}
+use Rattle.graph_store.specs.Refusals.{total_of}
 use Rattle.graph_store.specs.Keys.{with_keys}
-use Rattle.graph_store.specs.Taken.{with_ends}
+use Rattle.graph_store.specs.WithUpdate.{with_ends}
 use Rattle.graph_store.specs.Contents.{Contents, AreContents}
-use Rattle.graph_store.specs.Accepted.{with_what, with_edge_event, with_event, HasRoom}
+use Rattle.graph_store.specs.WithEvent.{with_what, with_edge_event, with_event, HasRoom}
 use Rattle.graph_store.proofs.JudgeLaws.{totals-update, totals-edge}
 use Rattle.graph_store.proofs.LawfulLaws.{each_fails}
 
@@ -36,7 +36,7 @@ pub record IsFine (model : Model) (accepted : List Event) (types : List (List �
 pub not_refused : (model : Model) (accepted : List Event) (types : List (List ℕ × List ℕ)) (x : Event) → event_refusal model accepted types x ≡ None → IsFine model accepted types x
 not_refused model accepted types x e = go (allows model x) (mistyped accepted x) (passed_limit (accepted ++ x ∷ []) types) refl refl refl e
   where
-    go : (a : Bool) (m : Option (List ℕ × Value)) (l : Option Counted) → allows model x ≡ a → mistyped accepted x ≡ m → passed_limit (accepted ++ x ∷ []) types ≡ l → cond (not a) (Some Deletion) (cond (is_some m) (Some KeyType) (cond (is_some l) (Some Limit) None)) ≡ None
+    go : (a : Bool) (m : Option (List ℕ × Value)) (l : Option Quantity) → allows model x ≡ a → mistyped accepted x ≡ m → passed_limit (accepted ++ x ∷ []) types ≡ l → cond (not a) (Some Deletion) (cond (is_some m) (Some KeyType) (cond (is_some l) (Some Limit) None)) ≡ None
         → IsFine model accepted types x
     go true None None a m l h = record { allowed = a; typed = m; within = l }
     go true None (Some k) a m l h = cc
@@ -44,21 +44,21 @@ not_refused model accepted types x e = go (allows model x) (mistyped accepted x)
     go false m' l' a m l h = cc
 
 -- where no limit is passed, there are no more of anything than there may be
-pub within_limit : (xs : List Event) (types : List (List ℕ × List ℕ)) → passed_limit xs types ≡ None → (k : Counted) → count_of k xs types ≤ limit_of k
+pub within_limit : (xs : List Event) (types : List (List ℕ × List ℕ)) → passed_limit xs types ≡ None → (k : Quantity) → count_of k xs types ≤ limit_of k
 within_limit xs types e k = ltb-false (limit_of k) (count_of k xs types) (each k)
   where
-    each : (k : Counted) → is_over xs types k ≡ false
-    each Events = (each_fails (is_over xs types) all_counted e).0
-    each Nodes = (each_fails (is_over xs types) all_counted e).1.0
-    each Layers = (each_fails (is_over xs types) all_counted e).1.1.0
-    each NodeKeys = (each_fails (is_over xs types) all_counted e).1.1.1.0
-    each EdgeKeys = (each_fails (is_over xs types) all_counted e).1.1.1.1.0
-    each Types = (each_fails (is_over xs types) all_counted e).1.1.1.1.1.0
+    each : (k : Quantity) → is_over xs types k ≡ false
+    each Events = (each_fails (is_over xs types) all_quantities e).0
+    each Nodes = (each_fails (is_over xs types) all_quantities e).1.0
+    each Layers = (each_fails (is_over xs types) all_quantities e).1.1.0
+    each NodeKeys = (each_fails (is_over xs types) all_quantities e).1.1.1.0
+    each EdgeKeys = (each_fails (is_over xs types) all_quantities e).1.1.1.1.0
+    each Types = (each_fails (is_over xs types) all_quantities e).1.1.1.1.1.0
 
 module _ (c : Contents) (node_updates edge_updates : List (List Update)) (h : AreContents c node_updates edge_updates) (once_nodes : IsDistinct same_name c.nodes) (once_layers : IsDistinct same_name c.layers) (once_kinds : IsDistinct same_name c.kinds)
     (once_node_keys : IsDistinct same_name (map (λ (p : List ℕ × ValueType). p.0) c.node_keys)) (once_edge_keys : IsDistinct same_name (map (λ (p : List ℕ × ValueType). p.0) c.edge_keys))
     (x : Event) (within : passed_limit (c.accepted ++ x ∷ []) c.types ≡ None) where
-  few : (t : Totals) → ((k : Counted) → total_of t k ≡ count_of k (c.accepted ++ x ∷ []) c.types) → (k : Counted) → total_of t k ≤ limit_of k
+  few : (t : Totals) → ((k : Quantity) → total_of t k ≡ count_of k (c.accepted ++ x ∷ []) c.types) → (k : Quantity) → total_of t k ≤ limit_of k
   few t same k = subst (λ n. n ≤ limit_of k) (sym (same k)) (within_limit (c.accepted ++ x ∷ []) c.types within k)
 
   of_edge : (edge : EdgeName) (props : List (List ℕ × Value)) → entity_of x ≡ Edge edge → props_of x ≡ props → HasRoom c (with_edge_event c x edge props)

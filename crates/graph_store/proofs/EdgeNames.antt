@@ -12,11 +12,11 @@ use Rattle.graph_model.specs.Names.{same_name}
 use Rattle.graph_model.specs.Entity.{same_entity}
 use Rattle.world_laws.proofs.Order.{same_name-exact, same_name-refl, same_edge-exact, same_edge-refl}
 use Rattle.graph_store.specs.declared.edges.EdgeParts.{EdgeParts}
-use Rattle.graph_store.specs.Parts.{same_parts, parts_at}
+use Rattle.graph_store.specs.EdgeParts.{same_parts, parts_at}
 use Rattle.graph_store.specs.Contents.{name_at, edge_name, edge_entities}
 use Rattle.graph_store.proofs.Listed.{one_place, list_any-place}
 use Rattle.time_history.specs.declared.updates.Update.{Update}
-use Rattle.graph_store.specs.Taken.{with_history, with_ends, with_end_histories}
+use Rattle.graph_store.specs.WithUpdate.{with_history, with_ends, with_end_histories}
 use Rattle.graph_store.proofs.AcceptNode.{name_at-insert}
 use Rattle.graph_store.proofs.AcceptEdge.{length-insert_key}
 use Rattle.graph_store.proofs.Readers.{none_found, nowhere}

@@ -14,11 +14,11 @@ use Rattle.world_laws.proofs.Order.{same_name-refl}
 use Rattle.graph_store.specs.declared.pairs.Ends.{Ends}
 use Rattle.graph_store.specs.declared.edges.EdgeParts.{EdgeParts}
 use Rattle.graph_store.specs.Ends.{same_ends, ends_at}
-use Rattle.graph_store.specs.Parts.{same_parts, ends_of, parts_at}
-use Rattle.graph_store.specs.Linked.{Linked}
-use Rattle.graph_store.specs.Taken.{with_ends, HasEdge}
+use Rattle.graph_store.specs.EdgeParts.{same_parts, ends_of, parts_at}
+use Rattle.graph_store.specs.EdgeIndex.{EdgeIndex}
+use Rattle.graph_store.specs.WithUpdate.{with_ends, HasEdge}
 use Rattle.graph_store.specs.Contents.{name_at, edge_name, edge_entities}
-use Rattle.graph_store.specs.Accepted.{parts_in}
+use Rattle.graph_store.specs.WithEvent.{parts_in}
 use Rattle.graph_store.proofs.Listed.{list_any-place}
 use Rattle.graph_store.proofs.LinkLaws.{same_ends-own, same_ends-equal}
 use Rattle.graph_store.proofs.Readers.{none_found}
@@ -77,7 +77,7 @@ parts_once nodes layers edge parts once_nodes once_layers is src dst layer =
     let d = place_once layers edge.layer parts.layer once_layers layer (ap (λ (x : EdgeName). x.layer) is) in
     sym (λ k. record { src = a k; dst = b k; layer = d k })
 
-module _ (nodes layers : List (List ℕ)) (edge : EdgeName) (before after : Linked) (once_nodes : IsDistinct same_name nodes) (once_layers : IsDistinct same_name layers)
+module _ (nodes layers : List (List ℕ)) (edge : EdgeName) (before after : EdgeIndex) (once_nodes : IsDistinct same_name nodes) (once_layers : IsDistinct same_name layers)
     (within : (e : ℕ) → e < length before.edges → ((parts_at before.edges e).src < length nodes) × ((parts_at before.edges e).dst < length nodes) × ((parts_at before.edges e).layer < length layers))
     (known : (ends : Ends) → list_any (same_ends ends) before.pairs ≡ list_any (λ (e : EdgeParts). same_ends ends (ends_of e)) before.edges) where
   nodes_after : List (List ℕ)

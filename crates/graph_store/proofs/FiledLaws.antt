@@ -20,8 +20,8 @@ use Rattle.time_history.specs.declared.updates.Kind.{Kind}
 use Rattle.time_history.specs.declared.updates.Kind.TheVariants.{Node as OfNode, Add, Delete}
 use Rattle.time_history.specs.declared.updates.Update.{Update}
 use Rattle.time_history.specs.Updates.{update_cmp, placed}
-use Rattle.time_history.specs.Told.{named, what_told, event_told, events_told}
-use Rattle.graph_store.specs.Told.{entity_at, updates_of_number, IsKept}
+use Rattle.time_history.specs.Telling.{with_key_names, what_told, event_told, events_told}
+use Rattle.graph_store.specs.Telling.{entity_at, updates_of_number, IsStoredUpdate}
 use Rattle.graph_store.specs.Filed.{arrived, all_arrived, arrival_cmp, by_arrival}
 
 -- a list and the same with one item more somewhere
@@ -118,7 +118,7 @@ pub entity-told : (e : Entity) (names : ℕ → List ℕ) (u : Update) → entit
 entity-told (Node name) names u = refl
 entity-told (Edge edge) names u = by_kind u.kind
   where
-    by_kind : (kind : Kind) → subject (what_told (Edge edge) kind (named names u.props)) ≡ Edge edge
+    by_kind : (kind : Kind) → subject (what_told (Edge edge) kind (with_key_names names u.props)) ≡ Edge edge
     by_kind OfNode = refl
     by_kind Add = refl
     by_kind Delete = refl
@@ -148,12 +148,12 @@ each_append : {X : Type 0} (P : X → Type 0) (xs ys : List X) → AllByRecursio
 each_append P [] ys a b = b
 each_append P (x ∷ xs) ys a b = (a.0, each_append P xs ys a.1 b)
 
-arrived_below : (e : Entity) (names : ℕ → List ℕ) (n before : ℕ) (us : List Update) → AllByRecursion (IsKept e n before) us → AllByRecursion (λ (q : ℕ × Event). q.0 < before) (arrived e names us)
+arrived_below : (e : Entity) (names : ℕ → List ℕ) (n before : ℕ) (us : List Update) → AllByRecursion (IsStoredUpdate e n before) us → AllByRecursion (λ (q : ℕ × Event). q.0 < before) (arrived e names us)
 arrived_below e names n before [] h = tt
 arrived_below e names n before (u ∷ us) h = (h.0.arrival, arrived_below e names n before us h.1)
 
 -- all that has arrived has lesser numbers of arrival
-pub all_arrived-below : (names : ℕ → List ℕ) (n before : ℕ) (es : List Entity) (hs : List (List Update)) → ((i : ℕ) → i < length es → AllByRecursion (IsKept (entity_at es i) n before) (updates_of_number hs i))
+pub all_arrived-below : (names : ℕ → List ℕ) (n before : ℕ) (es : List Entity) (hs : List (List Update)) → ((i : ℕ) → i < length es → AllByRecursion (IsStoredUpdate (entity_at es i) n before) (updates_of_number hs i))
     → AllByRecursion (λ (q : ℕ × Event). q.0 < before) (all_arrived names es hs)
 all_arrived-below names n before [] hs kept = tt
 all_arrived-below names n before (e ∷ es) [] kept = tt

@@ -9,8 +9,8 @@ use Rattle.world_laws.proofs.Filters.{each_append, each_weaker}
 use Rattle.graph_store.specs.declared.pairs.Ends.{Ends}
 use Rattle.graph_store.specs.declared.edges.EdgeParts.{EdgeParts}
 use Rattle.graph_store.specs.Ends.{same_ends, ends_at}
-use Rattle.graph_store.specs.Parts.{parts_at, parts_in_layer}
-use Rattle.graph_store.specs.Linked.{edges_from, AreHeld}
+use Rattle.graph_store.specs.EdgeParts.{parts_at, parts_in_layer}
+use Rattle.graph_store.specs.EdgeIndex.{edges_from, HavePairs}
 
 pub length-edges_from : (pairs : List Ends) (ps ls : List ℕ) → length ls ≡ length ps → length (edges_from pairs ps ls) ≡ length ps
 length-edges_from pairs [] ls e = refl
@@ -48,7 +48,7 @@ edges_from-push pairs (q ∷ ps) [] p l e = absurd (omega (arith, e))
 edges_from-push pairs (q ∷ ps) (m ∷ ls) p l e = ap (λ es. parts_in_layer (ends_at pairs q) m ∷ es) (edges_from-push pairs ps ls p l (omega (arith, e)))
 
 -- an edge more, whose pair is new or known
-module _ (pairs pairs' : List Ends) (ps ls : List ℕ) (p l : ℕ) (ends : Ends) (parts : EdgeParts) (h : AreHeld pairs ps ls) (grown : pairs' ≡ insert_key same_ends pairs ends) (lt : p < length pairs') (at : ends_at pairs' p ≡ ends) (is : parts_in_layer ends l ≡ parts) where
+module _ (pairs pairs' : List Ends) (ps ls : List ℕ) (p l : ℕ) (ends : Ends) (parts : EdgeParts) (h : HavePairs pairs ps ls) (grown : pairs' ≡ insert_key same_ends pairs ends) (lt : p < length pairs') (at : ends_at pairs' p ≡ ends) (is : parts_in_layer ends l ≡ parts) where
   kept : edges_from pairs' ps ls ≡ edges_from pairs ps ls
   kept = ap (λ qs. edges_from qs ps ls) grown ∙ by (list_any (same_ends ends) pairs)
     where
@@ -69,7 +69,7 @@ module _ (pairs pairs' : List Ends) (ps ls : List ℕ) (p l : ℕ) (ends : Ends)
       ∙ (ap (λ es. es ++ parts_in_layer (ends_at pairs' p) l ∷ []) kept
       ∙ ap (λ (x : EdgeParts). edges_from pairs ps ls ++ x ∷ []) (ap (λ (x : Ends). parts_in_layer x l) at ∙ is))
 
-  pub held_added : AreHeld pairs' (ps ++ p ∷ []) (ls ++ l ∷ [])
+  pub held_added : HavePairs pairs' (ps ++ p ∷ []) (ls ++ l ∷ [])
   held_added = record {
     lengths = length_push ls l ∙ (ap (λ n. n + 1) h.lengths ∙ sym (length_push ps p));
     within = each_append (λ (q : ℕ). q < length pairs') ps (p ∷ []) (each_weaker (λ (q : ℕ). q < length pairs) (λ (q : ℕ). q < length pairs') (λ q lt. omega (arith, longer)) ps h.within) (lt, tt);

@@ -22,16 +22,16 @@ use Rattle.time_history.specs.declared.updates.Kind.{Kind}
 use Rattle.time_history.specs.declared.updates.Kind.TheVariants.{Node as OfNode, Add, Delete}
 use Rattle.time_history.specs.declared.updates.Update.{Update}
 use Rattle.time_history.specs.Kinds.{is_delete}
-use Rattle.time_history.specs.Told.{event_told, events_told, fits, Fits}
+use Rattle.time_history.specs.Telling.{event_told, events_told, fits, Fits}
 use Rattle.time_history.specs.Spans.{IsTaken, IsAllowed, AreWithin}
 use Rattle.time_history.specs.Asked.{AreNamed}
 use Rattle.time_history.proofs.Held.{all_from_each}
 use Rattle.time_history.proofs.Whole.{whole_taken}
 use Rattle.graph_store.specs.declared.edges.EdgeParts.{EdgeParts}
-use Rattle.graph_store.specs.Parts.{parts_at}
+use Rattle.graph_store.specs.EdgeParts.{parts_at}
 use Rattle.graph_store.specs.Keys.{key_name}
-use Rattle.graph_store.specs.Told.{entity_at, updates_of_number, IsKept}
-use Rattle.graph_store.specs.Histories.{whole_of}
+use Rattle.graph_store.specs.Telling.{entity_at, updates_of_number, IsStoredUpdate}
+use Rattle.graph_store.specs.Histories.{span_of_all}
 use Rattle.graph_store.specs.Lawful.{AreJudged}
 use Rattle.graph_store.specs.Contents.{Contents, AreContents, name_at, edge_name, node_entities, edge_entities}
 use Rattle.graph_store.proofs.Listed.{one_place}
@@ -43,7 +43,7 @@ pub record IsRead (model : Model) (bounds : Interval) (accepted : List Event) (n
   pub keys : AreNamed names n us
   pub within : AreWithin bounds us
   pub allowed : IsAllowed model us
-  pub whole : IsTaken model bounds us (whole_of us)
+  pub whole : IsTaken model bounds us (span_of_all us)
 
 each_of_mapped : {X Y : Type 0} (f : X → Y) (P : Y → Type 0) (xs : List X) → AllByRecursion P (map f xs) → AllByRecursion (λ x. P (f x)) xs
 each_of_mapped f P [] h = tt
@@ -62,7 +62,7 @@ no_deletion e names u = go e u.kind
     go (Edge edge) Delete f h = cc
 
 -- updates inside bounds are taken whole
-taken_whole : (model : Model) (bounds : Interval) (us : List Update) → AllByRecursion (λ (u : Update). (bounds.lo ≤ℤ u.time) × (u.time <ℤ bounds.hi)) us → IsTaken model bounds us (whole_of us)
+taken_whole : (model : Model) (bounds : Interval) (us : List Update) → AllByRecursion (λ (u : Update). (bounds.lo ≤ℤ u.time) × (u.time <ℤ bounds.hi)) us → IsTaken model bounds us (span_of_all us)
 taken_whole model bounds [] h = inl (refl, refl)
 taken_whole model bounds (u ∷ us) h =
     let low = h.0.0 in
@@ -74,7 +74,7 @@ pub keys_apart : (keys : List (List ℕ × ValueType)) → IsDistinct same_name 
 keys_apart keys once i j lt_i lt_j e = one_place same_name same_name-refl (map (λ (p : List ℕ × ValueType). p.0) keys) i j [] once (rw length-map lt_i) (rw length-map lt_j) e
 
 module _ (model : Model) (bounds : Interval) (accepted : List Event) (judged : AreJudged model bounds accepted) (names : ℕ → List ℕ) (n : ℕ) (apart : (i j : ℕ) → i < n → j < n → names i ≡ names j → i ≡ j)
-    (e : Entity) (us : List Update) (told : events_told e names us ≡ about e (arrange accepted)) (kept : AllByRecursion (IsKept e n (length accepted)) us) where
+    (e : Entity) (us : List Update) (told : events_told e names us ≡ about e (arrange accepted)) (kept : AllByRecursion (IsStoredUpdate e n (length accepted)) us) where
   -- what holds of the accepted events holds of those that the updates tell
   each_told : (P : Event → Type 0) → AllByRecursion P accepted → AllByRecursion (λ u. P (event_told e names u)) us
   each_told P h = each_of_mapped (event_told e names) P us (subst (AllByRecursion P) (sym told) (each_kept P (is_about e) (arrange accepted) (each_in_order event_cmp P accepted h)))
@@ -87,17 +87,17 @@ module _ (model : Model) (bounds : Interval) (accepted : List Event) (judged : A
   allowed_by : (m : Model) → AllByRecursion (λ (x : Event). allows m x ≡ true) accepted → IsAllowed m us
   allowed_by Instants h =
       all_from_each (λ (u : Update). is_delete u.kind ≡ false) us
-      (each_two (IsKept e n (length accepted)) (λ (u : Update). allows Instants (event_told e names u) ≡ true) (λ (u : Update). is_delete u.kind ≡ false) (λ u k a. no_deletion e names u k.kind a) us kept (each_told (λ (x : Event). allows Instants x ≡ true) h))
+      (each_two (IsStoredUpdate e n (length accepted)) (λ (u : Update). allows Instants (event_told e names u) ≡ true) (λ (u : Update). is_delete u.kind ≡ false) (λ u k a. no_deletion e names u k.kind a) us kept (each_told (λ (x : Event). allows Instants x ≡ true) h))
   allowed_by Persistent h = tt
 
   read : IsRead model bounds accepted names n e us
   read = record {
     told = told;
-    fits = all_from_each (λ (u : Update). fits e u.kind ≡ true) us (each_weaker (IsKept e n (length accepted)) (λ (u : Update). fits e u.kind ≡ true) (λ u k. k.kind) us kept);
+    fits = all_from_each (λ (u : Update). fits e u.kind ≡ true) us (each_weaker (IsStoredUpdate e n (length accepted)) (λ (u : Update). fits e u.kind ≡ true) (λ u k. k.kind) us kept);
     keys = record {
       apart = apart;
       below = all_from_each (λ (u : Update). All (λ (p : ℕ × Value). p.0 < n) u.props) us
-          (each_weaker (IsKept e n (length accepted)) (λ (u : Update). All (λ (p : ℕ × Value). p.0 < n) u.props) (λ u k. all_from_each (λ (p : ℕ × Value). p.0 < n) u.props k.keys) us kept);
+          (each_weaker (IsStoredUpdate e n (length accepted)) (λ (u : Update). All (λ (p : ℕ × Value). p.0 < n) u.props) (λ u k. all_from_each (λ (p : ℕ × Value). p.0 < n) u.props k.keys) us kept);
     };
     within = all_from_each (λ (u : Update). (bounds.lo ≤ℤ u.time) × (u.time <ℤ bounds.hi)) us inside;
     allowed = allowed_by model judged.allowed;

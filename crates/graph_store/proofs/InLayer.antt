@@ -7,8 +7,8 @@ use Rattle.std.proofs.lemmas.Bool.{lt-ltb, ltb-true, or_parts, or_from}
 use Rattle.graph_store.specs.declared.edges.EdgeParts.{EdgeParts}
 use Rattle.graph_store.specs.Places.{places_from}
 use Rattle.graph_store.specs.Ends.{same_ends}
-use Rattle.graph_store.specs.Parts.{same_parts, ends_of, parts_at, is_in}
-use Rattle.graph_store.specs.Linked.{edges_between}
+use Rattle.graph_store.specs.EdgeParts.{same_parts, ends_of, parts_at, is_in}
+use Rattle.graph_store.specs.EdgeIndex.{edges_between}
 use Rattle.graph_store.proofs.EdgeNames.{agree}
 use Rattle.graph_store.proofs.Readers.{nowhere}
 

@@ -26,8 +26,8 @@ use Rattle.graph_model.specs.Props.{prop_value}
 use Rattle.graph_model.specs.declared.events.Model.{Model}
 use Rattle.graph_model.specs.Entity.{entity_of, is_node, subject, props_of, names_in}
 use Rattle.graph_model.specs.Refusal.{Deletion, KeyType, Retype, Limit}
-use Rattle.graph_model.specs.World.{named, type_of, allows}
-use Rattle.graph_model.specs.Accepting.{Counted, Events, Nodes, Layers, NodeKeys, EdgeKeys, Types, count_of, distinct, kept_type, node_events, edge_events, properties_of, key_names, node_names, layer_names, type_names, is_of_other_type, is_over, alike, mistyped, all_counted, limit_of, passed_limit, event_refusal, is_other_type, type_refusal}
+use Rattle.graph_model.specs.World.{names_node, type_of, allows}
+use Rattle.graph_model.specs.Accepting.{Quantity, Events, Nodes, Layers, NodeKeys, EdgeKeys, Types, count_of, distinct, kept_type, node_events, edge_events, properties_of, key_names, node_names, layer_names, type_names, is_of_other_type, is_over, alike, mistyped, all_quantities, limit_of, passed_limit, event_refusal, is_other_type, type_refusal}
 use Rattle.world_laws.proofs.Order.{same_name-exact, same_name-refl, name_exact}
 use Rattle.world_laws.proofs.Filters.{each_weaker}
 use Rattle.world_laws.proofs.Members.{any_flat_map}
@@ -37,11 +37,11 @@ use Rattle.graph_store.specs.declared.judging.Count.{Count}
 use Rattle.graph_store.specs.declared.judging.StoreRefusal.TheVariants.{Limit as TooMany}
 use Rattle.graph_store.specs.declared.judging.Totals.{Totals}
 use Rattle.graph_store.specs.Keys.{type_in, with_key, with_keys, prop_at, clashes, IsClash}
-use Rattle.graph_store.specs.Judged.{counted, total_of, is_above, IsMistyped, IsRefusal, IsTypeRefusal}
+use Rattle.graph_store.specs.Refusals.{quantity_of, total_of, is_above, IsMistyped, IsRefusal, IsTypeRefusal}
 use Rattle.graph_store.specs.Contents.{Contents, AreContents}
 use Rattle.graph_store.proofs.Listed.{list_any-place}
 use Rattle.graph_store.proofs.KeyLaws.{type_in-with_keys, first_type}
-use Rattle.graph_store.specs.Accepted.{node_event}
+use Rattle.graph_store.specs.WithEvent.{node_event}
 use Rattle.graph_store.proofs.AcceptNode.{or-nothing, insert_key-has, known_nodes-node, known_layers-node, node_types-node, edge_types-node}
 use Rattle.graph_store.proofs.AcceptEdge.{known_nodes-edge, known_layers-edge, node_types-edge, edge_types-edge}
 
@@ -117,7 +117,7 @@ typed_node (t ∷ types) n =
     elim (same_name n t.0) as (λ b. is_some (option_map (λ (q : List ℕ × List ℕ). q.1) (cond b (Some t) (find (λ (q : List ℕ × List ℕ). same_name n q.0) types))) ≡ (b || list_any (same_name n) (map (λ (q : List ℕ × List ℕ). q.0) types))) [ true ↦ refl | false ↦ typed_node types n ]
 
 -- events and types name nodes
-pub names_of : (xs : List Event) (types : List (List ℕ × List ℕ)) (n : List ℕ) → (named xs n || is_some (type_of types n)) ≡ list_any (same_name n) (node_names xs types)
+pub names_of : (xs : List Event) (types : List (List ℕ × List ℕ)) (n : List ℕ) → (names_node xs n || is_some (type_of types n)) ≡ list_any (same_name n) (node_names xs types)
 names_of xs types n =
     sym (list_any-append (same_name n) (flat_map (λ x. names_in (entity_of x)) xs) (map (λ (t : List ℕ × List ℕ). t.0) types)
     ∙ (λ k. any_flat_map (same_name n) (λ x. names_in (entity_of x)) xs k || sym (typed_node types n) k))
@@ -165,7 +165,7 @@ module _ (c : Contents) (node_updates edge_updates : List (List Update)) (h : Ar
     (once_node_keys : IsDistinct same_name (map (λ (p : List ℕ × ValueType). p.0) c.node_keys)) (once_edge_keys : IsDistinct same_name (map (λ (p : List ℕ × ValueType). p.0) c.edge_keys)) where
   -- what there would be with an update of a node
   pub totals-node : (time : ℤ) (order : ℕ) (name : List ℕ) (props : List (List ℕ × Value)) (t : Totals) → t.events ≡ length c.accepted + 1 → t.nodes ≡ length (insert_key same_name c.nodes name) → t.layers ≡ length c.layers
-      → t.node_keys ≡ length (with_keys c.node_keys props) → t.edge_keys ≡ length c.edge_keys → t.types ≡ length c.kinds → (k : Counted) → total_of t k ≡ count_of k (c.accepted ++ node_event time order name props ∷ []) c.types
+      → t.node_keys ≡ length (with_keys c.node_keys props) → t.edge_keys ≡ length c.edge_keys → t.types ≡ length c.kinds → (k : Quantity) → total_of t k ≡ count_of k (c.accepted ++ node_event time order name props ∷ []) c.types
   totals-node time order name props t events nodes layers node_keys edge_keys types Events = events ∙ sym (length_push c.accepted (node_event time order name props))
   totals-node time order name props t events nodes layers node_keys edge_keys types Nodes =
       nodes
@@ -184,14 +184,14 @@ module _ (c : Contents) (node_updates edge_updates : List (List Update)) (h : Ar
   totals-node time order name props t events nodes layers node_keys edge_keys types Types = types ∙ count_is c.kinds (type_names c.types) once_kinds h.known_kinds
 
   pub totals-update : (x : Event) (name : List ℕ) (props : List (List ℕ × Value)) → x.what ≡ NodeUpdate name props → (t : Totals) → t.events ≡ length c.accepted + 1 → t.nodes ≡ length (insert_key same_name c.nodes name) → t.layers ≡ length c.layers
-      → t.node_keys ≡ length (with_keys c.node_keys props) → t.edge_keys ≡ length c.edge_keys → t.types ≡ length c.kinds → (k : Counted) → total_of t k ≡ count_of k (c.accepted ++ x ∷ []) c.types
+      → t.node_keys ≡ length (with_keys c.node_keys props) → t.edge_keys ≡ length c.edge_keys → t.types ≡ length c.kinds → (k : Quantity) → total_of t k ≡ count_of k (c.accepted ++ x ∷ []) c.types
   totals-update x name props is t events nodes layers node_keys edge_keys types k =
       totals-node x.time x.order name props t events nodes layers node_keys edge_keys types k
       ∙ sym (ap (λ w. count_of k (c.accepted ++ (record { time = x.time; order = x.order; what = w }) ∷ []) c.types) is)
 
   -- what there would be with an event of an edge
   pub totals-edge : (x : Event) (edge : EdgeName) (props : List (List ℕ × Value)) → entity_of x ≡ Edge edge → props_of x ≡ props → (t : Totals) → t.events ≡ length c.accepted + 1 → t.nodes ≡ length (insert_key same_name (insert_key same_name c.nodes edge.src) edge.dst)
-      → t.layers ≡ length (insert_key same_name c.layers edge.layer) → t.node_keys ≡ length c.node_keys → t.edge_keys ≡ length (with_keys c.edge_keys props) → t.types ≡ length c.kinds → (k : Counted) → total_of t k ≡ count_of k (c.accepted ++ x ∷ []) c.types
+      → t.layers ≡ length (insert_key same_name c.layers edge.layer) → t.node_keys ≡ length c.node_keys → t.edge_keys ≡ length (with_keys c.edge_keys props) → t.types ≡ length c.kinds → (k : Quantity) → total_of t k ≡ count_of k (c.accepted ++ x ∷ []) c.types
   totals-edge x edge props own set t events nodes layers node_keys edge_keys types Events = events ∙ sym (length_push c.accepted x)
   totals-edge x edge props own set t events nodes layers node_keys edge_keys types Nodes =
       nodes
@@ -212,15 +212,15 @@ module _ (c : Contents) (node_updates edge_updates : List (List Update)) (h : Ar
 
   -- what there would be with a type
   pub totals-type : (node kind : List ℕ) (t : Totals) → t.events ≡ length c.accepted → t.nodes ≡ length (insert_key same_name c.nodes node) → t.layers ≡ length c.layers → t.node_keys ≡ length c.node_keys → t.edge_keys ≡ length c.edge_keys
-      → t.types ≡ length (insert_key same_name c.kinds kind) → (k : Counted) → total_of t k ≡ count_of k c.accepted (c.types ++ (node, kind) ∷ [])
+      → t.types ≡ length (insert_key same_name c.kinds kind) → (k : Quantity) → total_of t k ≡ count_of k c.accepted (c.types ++ (node, kind) ∷ [])
   totals-type node kind t events nodes layers node_keys edge_keys types Events = events
   totals-type node kind t events nodes layers node_keys edge_keys types Nodes =
       nodes
       ∙ count_is (insert_key same_name c.nodes node) (node_names c.accepted (c.types ++ (node, kind) ∷ [])) (distinct-insert c.nodes node once_nodes)
       (λ n. insert_key-has c.nodes node n
       ∙ (ap (λ b. b || same_name n node) (h.known_nodes n)
-      ∙ (or_assoc (named c.accepted n) (is_some (type_of c.types n)) (same_name n node)
-      ∙ (ap (λ b. named c.accepted n || b) (ap (λ b. b || same_name n node) (typed_node c.types n) ∙ sym (one_more (λ (u : List ℕ × List ℕ). u.0) c.types (node, kind) n) ∙ sym (typed_node (c.types ++ (node, kind) ∷ []) n))
+      ∙ (or_assoc (names_node c.accepted n) (is_some (type_of c.types n)) (same_name n node)
+      ∙ (ap (λ b. names_node c.accepted n || b) (ap (λ b. b || same_name n node) (typed_node c.types n) ∙ sym (one_more (λ (u : List ℕ × List ℕ). u.0) c.types (node, kind) n) ∙ sym (typed_node (c.types ++ (node, kind) ∷ []) n))
       ∙ names_of c.accepted (c.types ++ (node, kind) ∷ []) n))))
   totals-type node kind t events nodes layers node_keys edge_keys types Layers = layers ∙ count_is c.layers (layer_names c.accepted) once_layers h.known_layers
   totals-type node kind t events nodes layers node_keys edge_keys types NodeKeys =
@@ -240,25 +240,25 @@ mistyped_is keys accepted x props same set (Some r) h =
     (h.0, sym (clash_is keys (alike x accepted) same (props_of x)) ∙ (ap (find (clashes keys)) set ∙ h.1), sym (same h.0.0) ∙ h.2, h.3)
 
 -- the first limit that is passed is the first of which there are too many
-pub first_limit : (t : Totals) (xs : List Event) (types : List (List ℕ × List ℕ)) → ((k : Counted) → total_of t k ≡ count_of k xs types) → find (is_above t) all_counted ≡ passed_limit xs types
-first_limit t xs types same = find-same (is_above t) (is_over xs types) (λ k. ap (nat_lt (limit_of k)) (same k)) all_counted
+pub first_limit : (t : Totals) (xs : List Event) (types : List (List ℕ × List ℕ)) → ((k : Quantity) → total_of t k ≡ count_of k xs types) → find (is_above t) all_quantities ≡ passed_limit xs types
+first_limit t xs types same = find-same (is_above t) (is_over xs types) (λ k. ap (nat_lt (limit_of k)) (same k)) all_quantities
 
 -- an event that the model allows and whose keys keep their types is refused for a limit alone
 module _ (model : Model) (accepted : List Event) (types : List (List ℕ × List ℕ)) (x : Event) (allowed : allows model x ≡ true) where
-  pub judged : mistyped accepted x ≡ None → (o : Option Counted) → passed_limit (accepted ++ x ∷ []) types ≡ o → event_refusal model accepted types x ≡ cond (is_some o) (Some Limit) None
+  pub judged : mistyped accepted x ≡ None → (o : Option Quantity) → passed_limit (accepted ++ x ∷ []) types ≡ o → event_refusal model accepted types x ≡ cond (is_some o) (Some Limit) None
   judged typed o e =
       ap (λ t. cond (not t) (Some Deletion) (cond (is_some (mistyped accepted x)) (Some KeyType) (cond (is_some (passed_limit (accepted ++ x ∷ []) types)) (Some Limit) None))) allowed
       ∙ (ap (λ m. cond (is_some m) (Some KeyType) (cond (is_some (passed_limit (accepted ++ x ∷ []) types)) (Some Limit) None)) typed
       ∙ ap (λ m. cond (is_some m) (Some Limit) None) e)
 
 -- the first limit that is passed, or none, is the refusal of an event that the model allows and whose keys keep their types
-module _ (model : Model) (accepted : List Event) (types : List (List ℕ × List ℕ)) (x : Event) (allowed : allows model x ≡ true) (typed : mistyped accepted x ≡ None) (t : Totals) (same : (k : Counted) → total_of t k ≡ count_of k (accepted ++ x ∷ []) types) where
-  pub refused-limit : (count : Count) → Some (counted count) ≡ find (is_above t) all_counted → IsRefusal model accepted types x (TooMany count)
+module _ (model : Model) (accepted : List Event) (types : List (List ℕ × List ℕ)) (x : Event) (allowed : allows model x ≡ true) (typed : mistyped accepted x ≡ None) (t : Totals) (same : (k : Quantity) → total_of t k ≡ count_of k (accepted ++ x ∷ []) types) where
+  pub refused-limit : (count : Count) → Some (quantity_of count) ≡ find (is_above t) all_quantities → IsRefusal model accepted types x (TooMany count)
   refused-limit count h =
-      let passed : passed_limit (accepted ++ x ∷ []) types ≡ Some (counted count) = sym (first_limit t (accepted ++ x ∷ []) types same) ∙ sym h in
-      (judged model accepted types x allowed typed (Some (counted count)) passed, passed)
+      let passed : passed_limit (accepted ++ x ∷ []) types ≡ Some (quantity_of count) = sym (first_limit t (accepted ++ x ∷ []) types same) ∙ sym h in
+      (judged model accepted types x allowed typed (Some (quantity_of count)) passed, passed)
 
-  pub not-refused : None ≡ find (is_above t) all_counted → event_refusal model accepted types x ≡ None
+  pub not-refused : None ≡ find (is_above t) all_quantities → event_refusal model accepted types x ≡ None
   not-refused h = judged model accepted types x allowed typed None (sym (first_limit t (accepted ++ x ∷ []) types same) ∙ sym h)
 
 -- the type of a node is refused where the node has another, or else for a limit
@@ -269,25 +269,25 @@ module _ (c : Contents) (node kind : List ℕ) where
   pub retyped : is_other_type c.types node kind ≡ true → type_refusal c.accepted c.types node kind ≡ Some Retype
   retyped e = ap (λ b. cond b (Some Retype) (cond (is_some (passed_limit c.accepted with_this)) (Some Limit) None)) e
 
-  module _ (own : is_other_type c.types node kind ≡ false) (t : Totals) (same : (k : Counted) → total_of t k ≡ count_of k c.accepted with_this) where
-    type_judged : (o : Option Counted) → passed_limit c.accepted with_this ≡ o → type_refusal c.accepted c.types node kind ≡ cond (is_some o) (Some Limit) None
+  module _ (own : is_other_type c.types node kind ≡ false) (t : Totals) (same : (k : Quantity) → total_of t k ≡ count_of k c.accepted with_this) where
+    type_judged : (o : Option Quantity) → passed_limit c.accepted with_this ≡ o → type_refusal c.accepted c.types node kind ≡ cond (is_some o) (Some Limit) None
     type_judged o e =
         ap (λ b. cond b (Some Retype) (cond (is_some (passed_limit c.accepted with_this)) (Some Limit) None)) own
         ∙ ap (λ m. cond (is_some m) (Some Limit) None) e
 
-    pub type-refused : (count : Count) → Some (counted count) ≡ find (is_above t) all_counted → IsTypeRefusal c node kind (TooMany count)
+    pub type-refused : (count : Count) → Some (quantity_of count) ≡ find (is_above t) all_quantities → IsTypeRefusal c node kind (TooMany count)
     type-refused count e =
-        let passed : passed_limit c.accepted with_this ≡ Some (counted count) = sym (first_limit t c.accepted with_this same) ∙ sym e in
-        (type_judged (Some (counted count)) passed, passed)
+        let passed : passed_limit c.accepted with_this ≡ Some (quantity_of count) = sym (first_limit t c.accepted with_this same) ∙ sym e in
+        (type_judged (Some (quantity_of count)) passed, passed)
 
-    pub type-not-refused : None ≡ find (is_above t) all_counted → type_refusal c.accepted c.types node kind ≡ None
+    pub type-not-refused : None ≡ find (is_above t) all_quantities → type_refusal c.accepted c.types node kind ≡ None
     type-not-refused e = type_judged None (sym (first_limit t c.accepted with_this same) ∙ sym e)
 
 -- there are not too many of anything
 below_limit : (limit total : ℕ) → total ≤ limit → nat_lt limit total ≡ false
 below_limit limit total le = false_from_ne_true (nat_lt limit total) (λ e. let lt = ltb-true limit total e in absurd (omega arith))
 
-pub none_above : (t : Totals) → t.events ≤ 4194304 → t.nodes ≤ 1048576 → t.layers ≤ 64 → t.node_keys ≤ 256 → t.edge_keys ≤ 256 → t.types ≤ 4096 → find (is_above t) all_counted ≡ None
+pub none_above : (t : Totals) → t.events ≤ 4194304 → t.nodes ≤ 1048576 → t.layers ≤ 64 → t.node_keys ≤ 256 → t.edge_keys ≤ 256 → t.types ≤ 4096 → find (is_above t) all_quantities ≡ None
 none_above t events nodes layers node_keys edge_keys types = λ i.
     cond (below_limit 4194304 t.events events i) (Some Events)
     (cond (below_limit 1048576 t.nodes nodes i) (Some Nodes)

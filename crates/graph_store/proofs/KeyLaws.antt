@@ -19,10 +19,10 @@ use Rattle.graph_model.specs.declared.properties.ValueType.{ValueType}
 use Rattle.graph_model.specs.Names.{name_cmp, same_name, name_total}
 use Rattle.graph_model.specs.ValueKind.{value_type}
 use Rattle.graph_model.specs.Props.{KeysRise, prop_value, has_key, put_prop}
-use Rattle.time_history.specs.KeyValues.{KeysRise as NumbersRise}
-use Rattle.time_history.specs.Told.{named}
+use Rattle.time_history.specs.KeyValues.{KeyNumbersRise as NumbersRise}
+use Rattle.time_history.specs.Telling.{with_key_names}
 use Rattle.graph_store.specs.Numbered.{put_number}
-use Rattle.graph_store.proofs.NumberLaws.{named-put, put_prop-last, each_put, rise_put}
+use Rattle.graph_store.proofs.NumberLaws.{with_key_names-put, put_prop-last, each_put, rise_put}
 use Rattle.world_laws.proofs.Order.{same_name-exact}
 use Rattle.graph_store.specs.Keys.{type_in, with_key, with_keys, prop_at, clashes, IsClash, key_name}
 
@@ -212,7 +212,7 @@ has_key-less key (q ∷ qs) h = or_from (same_name key q.0) (has_key key qs) (ap
 
 -- values by number, with that of the property at a place
 pub record AreNumberedTo (names : ℕ → List ℕ) (n : ℕ) (props : List (List ℕ × Value)) (i : ℕ) (values : List (ℕ × Value)) : Type 0 where
-  pub named_so : named names values ≡ take i props
+  pub named_so : with_key_names names values ≡ take i props
   pub below : AllByRecursion (λ (p : ℕ × Value). p.0 < n) values
   pub rise : NumbersRise values
 
@@ -222,10 +222,10 @@ pub numbered_more : (names : ℕ → List ℕ) (n : ℕ) (props : List (List ℕ
 numbered_more names n props i k key value values rise lt at has within name h =
     let there = prop_there props i key value lt at has in
     let less : AllByRecursion (λ (q : List ℕ × Value). name_cmp q.0 key ≡ Less) (take i props) = subst (λ (p : List ℕ × Value). AllByRecursion (λ (q : List ℕ × Value). name_cmp q.0 p.0 ≡ Less) (take i props)) there (less_before props i rise lt) in
-    let absent : has_key (names k) (named names values) ≡ false = ap (λ x. has_key x (named names values)) name ∙ (ap (has_key key) h.named_so ∙ has_key-less key (take i props) less) in
+    let absent : has_key (names k) (with_key_names names values) ≡ false = ap (λ x. has_key x (with_key_names names values)) name ∙ (ap (has_key key) h.named_so ∙ has_key-less key (take i props) less) in
     record {
-      named_so = named-put names (k, value) values absent
-          ∙ (ap (λ x. put_prop (x, value) (named names values)) name
+      named_so = with_key_names-put names (k, value) values absent
+          ∙ (ap (λ x. put_prop (x, value) (with_key_names names values)) name
           ∙ (ap (put_prop (key, value)) h.named_so
           ∙ (put_prop-last (key, value) (take i props) less
           ∙ sym (take_prop props i lt ∙ ap (λ p. take i props ++ p ∷ []) there))));

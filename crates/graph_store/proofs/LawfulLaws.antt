@@ -24,7 +24,7 @@ use Rattle.world_laws.proofs.Order.{same_name-exact, same_name-refl}
 use Rattle.world_laws.proofs.Filters.{each_weaker, each_append, each_two}
 use Rattle.world_laws.proofs.Lawful.{all_pass}
 use Rattle.graph_store.specs.Lawful.{KeepsTypes, AreJudged}
-use Rattle.graph_store.specs.Accepted.{node_event}
+use Rattle.graph_store.specs.WithEvent.{node_event}
 use Rattle.graph_store.proofs.KeyLaws.{first_type}
 use Rattle.graph_store.proofs.AcceptNode.{filter-append, flat_map-last, prop_value-append}
 

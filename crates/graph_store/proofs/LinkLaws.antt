@@ -14,9 +14,9 @@ use Rattle.indexmap.specs.IndexSet.{insert_key}
 use Rattle.graph_store.specs.declared.pairs.Ends.{Ends}
 use Rattle.graph_store.specs.declared.edges.EdgeParts.{EdgeParts}
 use Rattle.graph_store.specs.Ends.{same_ends, ends_at}
-use Rattle.graph_store.specs.Parts.{same_parts, ends_of, parts_at}
-use Rattle.graph_store.specs.Paired.{Paired}
-use Rattle.graph_store.specs.Linked.{AreLinked, edges_between}
+use Rattle.graph_store.specs.EdgeParts.{same_parts, ends_of, parts_at}
+use Rattle.graph_store.specs.PairIndex.{PairIndex}
+use Rattle.graph_store.specs.EdgeIndex.{IsEdgeIndex, edges_between}
 use Rattle.link_chain.specs.NumberLists.{numbers_at, with_last}
 use Rattle.link_chain.proofs.NumberLaws.{numbers_at-add_list, numbers_at-with_last, numbers_at-with_last_other, length-with_last}
 use Rattle.graph_store.proofs.PairLaws.{places-push}
@@ -47,7 +47,7 @@ or-absorbed true b h = refl
 or-absorbed false true h = h refl
 or-absorbed false false h = refl
 
-ready : (edges : List EdgeParts) (paired : Paired) (lists : List (List ℕ)) (linked : ℕ) (ends : Ends) → AreLinked edges paired lists linked → (t : Bool) → list_any (same_ends ends) paired.pairs ≡ t
+ready : (edges : List EdgeParts) (paired : PairIndex) (lists : List (List ℕ)) (linked : ℕ) (ends : Ends) → IsEdgeIndex edges paired lists linked → (t : Bool) → list_any (same_ends ends) paired.pairs ≡ t
     → AreReady edges (cond t paired.pairs (paired.pairs ++ ends ∷ [])) ends (cond t lists (lists ++ [] ∷ []))
 ready edges paired lists linked ends h true e = record {
   few_pairs = omega (arith, h.few_pairs);
@@ -77,8 +77,8 @@ ready edges paired lists linked ends h false e =
     or-nothing true = refl
     or-nothing false = refl
 
-pub AreLinked-push : (edges : List EdgeParts) (paired paired' : Paired) (lists lists1 : List (List ℕ)) (linked linked1 : ℕ) (parts : EdgeParts) (p : ℕ)
-    → AreLinked edges paired lists linked
+pub IsEdgeIndex-push : (edges : List EdgeParts) (paired paired' : PairIndex) (lists lists1 : List (List ℕ)) (linked linked1 : ℕ) (parts : EdgeParts) (p : ℕ)
+    → IsEdgeIndex edges paired lists linked
     → linked1 ≤ linked + 1
     → list_any (same_parts parts) edges ≡ false
     → parts.src < paired.nodes → parts.dst < paired.nodes → length edges < 2 ^ 32 - 1
@@ -87,8 +87,8 @@ pub AreLinked-push : (edges : List EdgeParts) (paired paired' : Paired) (lists l
     → lists1 ≡ cond (list_any (same_ends (ends_of parts)) paired.pairs) lists (lists ++ [] ∷ [])
     → p < length paired'.pairs → ends_at paired'.pairs p ≡ ends_of parts
     → IsDistinct same_ends paired'.pairs
-    → AreLinked (edges ++ parts ∷ []) paired' (with_last p (length edges) lists1) linked1
-AreLinked-push edges paired paired' lists lists1 linked linked1 parts p h one_more new src dst few nodes pairs grown lt here once =
+    → IsEdgeIndex (edges ++ parts ∷ []) paired' (with_last p (length edges) lists1) linked1
+IsEdgeIndex-push edges paired paired' lists lists1 linked linked1 parts p h one_more new src dst few nodes pairs grown lt here once =
     let ends = ends_of parts in
     let r0 : AreReady edges (insert_key same_ends paired.pairs ends) ends (cond (list_any (same_ends ends) paired.pairs) lists (lists ++ [] ∷ [])) = ready edges paired lists linked ends h (list_any (same_ends ends) paired.pairs) refl in
     let r : AreReady edges paired'.pairs ends lists1 = subst (λ ps. AreReady edges ps ends lists1) (sym pairs) (subst (λ cs. AreReady edges (insert_key same_ends paired.pairs ends) ends cs) (sym grown) r0) in

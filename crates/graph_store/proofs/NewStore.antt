@@ -10,13 +10,13 @@ use Rattle.graph_store.specs.declared.store.Store.TheInside.{Inside}
 use Rattle.graph_store.specs.Filed.{all_arrived, by_arrival}
 use Rattle.graph_store.specs.Histories.{updates_in}
 use Rattle.graph_store.specs.Keys.{key_name}
-use Rattle.graph_store.specs.Told.{AreTold}
-use Rattle.graph_store.specs.Typed.{types_named, AreTyped}
+use Rattle.graph_store.specs.Telling.{TellEvents}
+use Rattle.graph_store.specs.TypeIndex.{types_named, IsTypeIndex}
 use Rattle.graph_store.specs.Contents.{Contents, AreContents, node_entities, edge_entities}
-use Rattle.graph_store.specs.Kept.{contents, IsStored}
+use Rattle.graph_store.specs.StoreInvariant.{contents, IsStored}
 
-AreTold-none : (names : ℕ → List ℕ) (n : ℕ) → AreTold names n [] [] []
-AreTold-none names n = record {
+TellEvents-none : (names : ℕ → List ℕ) (n : ℕ) → TellEvents names n [] [] []
+TellEvents-none names n = record {
   lengths = refl;
   told = λ i lt. absurd (omega arith);
   kept = λ i lt. absurd (omega arith);
@@ -30,8 +30,8 @@ nothing model bounds pairs = record { model = model; bounds = bounds; accepted =
 AreContents-nothing : (model : Model) (bounds : Interval) (pairs : List Ends) → AreContents (nothing model bounds pairs) [] []
 AreContents-nothing model bounds pairs = record {
   arrived = refl;
-  nodes_told = AreTold-none (key_name []) 0;
-  edges_told = AreTold-none (key_name []) 0;
+  nodes_told = TellEvents-none (key_name []) 0;
+  edges_told = TellEvents-none (key_name []) 0;
   known_nodes = λ name. refl;
   known_layers = λ name. refl;
   known_kinds = λ name. refl;
@@ -75,5 +75,5 @@ module _ (s : Inside) (events : s.events ≡ 0) (nodes : s.nodes.names ≡ []) (
     few_layers = subst (λ (ns : List (List ℕ)). length ns ≤ 64) (sym layers) (omega arith);
     few_node_keys = subst (λ (ks : List (List ℕ × ValueType)). length ks ≤ 256) (sym node_keys) (omega arith);
     few_edge_keys = subst (λ (ks : List (List ℕ × ValueType)). length ks ≤ 256) (sym edge_keys) (omega arith);
-    typed_within = subst (AreTyped s.nodes.names s.kinds.names) (sym types) tt;
+    typed_within = subst (IsTypeIndex s.nodes.names s.kinds.names) (sym types) tt;
   }

@@ -12,8 +12,8 @@ use Rattle.graph_model.specs.Names.{name_cmp, same_name, name_total}
 use Rattle.graph_model.specs.Props.{put_prop, has_key}
 use Rattle.world_laws.proofs.Distinct.{any-put_prop}
 use Rattle.world_laws.proofs.Filters.{each_weaker}
-use Rattle.time_history.specs.KeyValues.{KeysRise}
-use Rattle.time_history.specs.Told.{named}
+use Rattle.time_history.specs.KeyValues.{KeyNumbersRise}
+use Rattle.time_history.specs.Telling.{with_key_names}
 use Rattle.world_laws.proofs.Order.{same_name-exact, same_name-refl}
 use Rattle.graph_store.specs.declared.numbered.Numbered.{Numbered}
 use Rattle.graph_store.specs.Numbered.{pairs_in, put_number}
@@ -84,21 +84,21 @@ put_prop-last p (q ∷ qs) h =
 
 module _ (names : ℕ → List ℕ) (p : ℕ × Value) where
   -- its name is not among those of the values
-  parts : (v : ℕ × Value) (vs : List (ℕ × Value)) → has_key (names p.0) (named names (v ∷ vs)) ≡ false → (same_name (names p.0) (names v.0) ≡ false) × (has_key (names p.0) (named names vs) ≡ false)
-  parts v vs h = or_parts (same_name (names p.0) (names v.0)) (has_key (names p.0) (named names vs)) (sym (any-put_prop (λ (q : List ℕ × Value). same_name (names p.0) q.0) (names v.0, v.1) (named names vs)) ∙ h)
+  parts : (v : ℕ × Value) (vs : List (ℕ × Value)) → has_key (names p.0) (with_key_names names (v ∷ vs)) ≡ false → (same_name (names p.0) (names v.0) ≡ false) × (has_key (names p.0) (with_key_names names vs) ≡ false)
+  parts v vs h = or_parts (same_name (names p.0) (names v.0)) (has_key (names p.0) (with_key_names names vs)) (sym (any-put_prop (λ (q : List ℕ × Value). same_name (names p.0) q.0) (names v.0, v.1) (with_key_names names vs)) ∙ h)
 
-  put_cases : (v : ℕ × Value) (vs : List (ℕ × Value)) (t : Bool) → named names (put_number p vs) ≡ put_prop (names p.0, p.1) (named names vs)
-      → put_prop (names v.0, v.1) (put_prop (names p.0, p.1) (named names vs)) ≡ put_prop (names p.0, p.1) (put_prop (names v.0, v.1) (named names vs))
-      → named names (cond t (p ∷ v ∷ vs) (v ∷ put_number p vs)) ≡ put_prop (names p.0, p.1) (put_prop (names v.0, v.1) (named names vs))
+  put_cases : (v : ℕ × Value) (vs : List (ℕ × Value)) (t : Bool) → with_key_names names (put_number p vs) ≡ put_prop (names p.0, p.1) (with_key_names names vs)
+      → put_prop (names v.0, v.1) (put_prop (names p.0, p.1) (with_key_names names vs)) ≡ put_prop (names p.0, p.1) (put_prop (names v.0, v.1) (with_key_names names vs))
+      → with_key_names names (cond t (p ∷ v ∷ vs) (v ∷ put_number p vs)) ≡ put_prop (names p.0, p.1) (put_prop (names v.0, v.1) (with_key_names names vs))
   put_cases v vs true h c = refl
   put_cases v vs false h c = ap (put_prop (names v.0, v.1)) h ∙ c
 
   -- a value that is put by its number is put by its name
-  pub named-put : (vs : List (ℕ × Value)) → has_key (names p.0) (named names vs) ≡ false → named names (put_number p vs) ≡ put_prop (names p.0, p.1) (named names vs)
-  named-put [] h = refl
-  named-put (v ∷ vs) h =
+  pub with_key_names-put : (vs : List (ℕ × Value)) → has_key (names p.0) (with_key_names names vs) ≡ false → with_key_names names (put_number p vs) ≡ put_prop (names p.0, p.1) (with_key_names names vs)
+  with_key_names-put [] h = refl
+  with_key_names-put (v ∷ vs) h =
       let k = parts v vs h in
-      put_cases v vs (nat_lt p.0 v.0) (named-put vs k.1) (sym (put_prop-comm (names p.0, p.1) (names v.0, v.1) k.0 (named names vs)))
+      put_cases v vs (nat_lt p.0 v.0) (with_key_names-put vs k.1) (sym (put_prop-comm (names p.0, p.1) (names v.0, v.1) k.0 (with_key_names names vs)))
 
   each_cases : (P : ℕ × Value → Type 0) (v : ℕ × Value) (vs : List (ℕ × Value)) (t : Bool) → P p → P v → AllByRecursion P vs → AllByRecursion P (put_number p vs) → AllByRecursion P (cond t (p ∷ v ∷ vs) (v ∷ put_number p vs))
   each_cases P v vs true a b c d = (a, (b, c))
@@ -108,7 +108,7 @@ module _ (names : ℕ → List ℕ) (p : ℕ × Value) where
   each_put P [] a h = (a, tt)
   each_put P (v ∷ vs) a h = each_cases P v vs (nat_lt p.0 v.0) a h.0 h.1 (each_put P vs a h.1)
 
-  rise_cases : (v : ℕ × Value) (vs : List (ℕ × Value)) (t : Bool) → nat_lt p.0 v.0 ≡ t → (p.0 ≡ v.0 → ⊥) → KeysRise (v ∷ vs) → KeysRise (put_number p vs) → KeysRise (cond t (p ∷ v ∷ vs) (v ∷ put_number p vs))
+  rise_cases : (v : ℕ × Value) (vs : List (ℕ × Value)) (t : Bool) → nat_lt p.0 v.0 ≡ t → (p.0 ≡ v.0 → ⊥) → KeyNumbersRise (v ∷ vs) → KeyNumbersRise (put_number p vs) → KeyNumbersRise (cond t (p ∷ v ∷ vs) (v ∷ put_number p vs))
   rise_cases v vs true e apart r h =
       let less : p.0 < v.0 = ltb-true p.0 v.0 e in
       ((less, each_weaker (λ (q : ℕ × Value). v.0 < q.0) (λ (q : ℕ × Value). p.0 < q.0) (λ q k. omega (arith, k)) vs r.0), r)
@@ -117,14 +117,14 @@ module _ (names : ℕ → List ℕ) (p : ℕ × Value) where
       let more : v.0 < p.0 = omega (arith, apart) in
       (each_put (λ (q : ℕ × Value). v.0 < q.0) vs more r.0, h)
 
-  pub rise_put : (vs : List (ℕ × Value)) → has_key (names p.0) (named names vs) ≡ false → KeysRise vs → KeysRise (put_number p vs)
+  pub rise_put : (vs : List (ℕ × Value)) → has_key (names p.0) (with_key_names names vs) ≡ false → KeyNumbersRise vs → KeyNumbersRise (put_number p vs)
   rise_put [] h r = (tt, tt)
   rise_put (v ∷ vs) h r =
       let k = parts v vs h in
       rise_cases v vs (nat_lt p.0 v.0) refl (λ e. true≢false (sym (same_name-refl (names p.0)) ∙ (ap (λ n. same_name (names p.0) (names n)) e ∙ k.0))) r (rise_put vs k.1 r.1)
 
 -- what comes before a pair of a rising list has lesser keys
-pub before_rises : (vs : List (ℕ × Value)) (p : ℕ × Value) (rest : List (ℕ × Value)) → KeysRise (vs ++ p ∷ rest) → AllByRecursion (λ (v : ℕ × Value). v.0 < p.0) vs
+pub before_rises : (vs : List (ℕ × Value)) (p : ℕ × Value) (rest : List (ℕ × Value)) → KeyNumbersRise (vs ++ p ∷ rest) → AllByRecursion (λ (v : ℕ × Value). v.0 < p.0) vs
 before_rises [] p rest r = tt
 before_rises (v ∷ vs) p rest r = (each_seam vs r.0, before_rises vs p rest r.1)
   where

@@ -5,7 +5,7 @@ use Rattle.std.proofs.lemmas.List.{length_push, length-set}
 use Rattle.std.proofs.lemmas.Bool.{cases_eq, eq-eqb, ne_eqb}
 use Rattle.graph_store.specs.declared.pairs.Ends.{Ends}
 use Rattle.graph_store.specs.Places.{places_from, places}
-use Rattle.graph_store.specs.Paired.{ArePaired}
+use Rattle.graph_store.specs.PairIndex.{IsPairIndex}
 use Rattle.link_chain.specs.Chains.{items_at, put_last}
 use Rattle.link_chain.proofs.ChainLaws.{items_at-add_head, link_count-add_head, items_at-put_last, items_at-put_last_other, link_count-put_last}
 
@@ -41,9 +41,9 @@ module _ {X : Type 0} (number : X → ℕ) where
       ∙ sym (p ∙ (ap (λ t. places (λ y. nat_eq (number y) n) xs ++ cond t (length xs ∷ []) []) (ne_eqb (number x) n apart) ∙ append-nil (places (λ y. nat_eq (number y) n) xs)))))
       (cases_eq (number x) n)
 
-pub ArePaired-push : (pairs : List Ends) (ends : Ends) (outward inward : List (List (ℕ × ℕ))) → ends.src < length outward → ends.dst < length outward → length pairs + 1 < 2 ^ 32 → ArePaired pairs outward inward
-    → ArePaired (pairs ++ ends ∷ []) (put_last ends.src (length pairs) outward) (put_last ends.dst (length pairs) inward)
-ArePaired-push pairs ends outward inward src dst few h =
+pub IsPairIndex-push : (pairs : List Ends) (ends : Ends) (outward inward : List (List (ℕ × ℕ))) → ends.src < length outward → ends.dst < length outward → length pairs + 1 < 2 ^ 32 → IsPairIndex pairs outward inward
+    → IsPairIndex (pairs ++ ends ∷ []) (put_last ends.src (length pairs) outward) (put_last ends.dst (length pairs) inward)
+IsPairIndex-push pairs ends outward inward src dst few h =
     let in_dst : ends.dst < length inward = omega (arith, h.nodes) in
     let more = length_push pairs ends in
     let out_links = link_count-put_last ends.src (length pairs) outward src in
@@ -58,8 +58,8 @@ ArePaired-push pairs ends outward inward src dst few h =
       end = λ node. items_at-put (λ (p : Ends). p.dst) pairs ends inward node in_dst (h.end node);
     }
 
-pub ArePaired-node : (pairs : List Ends) (outward inward : List (List (ℕ × ℕ))) → length outward + 1 < 2 ^ 32 → ArePaired pairs outward inward → ArePaired pairs (outward ++ [] ∷ []) (inward ++ [] ∷ [])
-ArePaired-node pairs outward inward few h = record {
+pub IsPairIndex-node : (pairs : List Ends) (outward inward : List (List (ℕ × ℕ))) → length outward + 1 < 2 ^ 32 → IsPairIndex pairs outward inward → IsPairIndex pairs (outward ++ [] ∷ []) (inward ++ [] ∷ [])
+IsPairIndex-node pairs outward inward few h = record {
   few = h.few;
   few_nodes = omega (arith, length_push outward []);
   nodes = length_push inward [] ∙ (ap (λ n. n + 1) h.nodes ∙ sym (length_push outward []));
@@ -69,6 +69,6 @@ ArePaired-node pairs outward inward few h = record {
   end = λ node. items_at-add_head inward node ∙ h.end node;
 }
 
-pub ArePaired-along : (p p' : List Ends) (o o' i i' : List (List (ℕ × ℕ))) → p' ≡ p → o' ≡ o → i' ≡ i → ArePaired p o i → ArePaired p' o' i'
-ArePaired-along p p' o o' i i' ep eo ei h =
-    subst (λ x. ArePaired x o' i') (sym ep) (subst (λ x. ArePaired p x i') (sym eo) (subst (λ x. ArePaired p o x) (sym ei) h))
+pub IsPairIndex-along : (p p' : List Ends) (o o' i i' : List (List (ℕ × ℕ))) → p' ≡ p → o' ≡ o → i' ≡ i → IsPairIndex p o i → IsPairIndex p' o' i'
+IsPairIndex-along p p' o o' i i' ep eo ei h =
+    subst (λ x. IsPairIndex x o' i') (sym ep) (subst (λ x. IsPairIndex p x i') (sym eo) (subst (λ x. IsPairIndex p o x) (sym ei) h))

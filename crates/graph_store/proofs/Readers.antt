@@ -8,11 +8,11 @@ use Rattle.std.proofs.lemmas.List.Sums.{prefix_len_passes}
 use Rattle.std.proofs.lemmas.List.Quantifiers.{position-Some}
 use Rattle.std.proofs.lemmas.Bool.{ltb-false, not-true, true≢false}
 use Rattle.graph_model.specs.declared.events.Entity.TheVariants.{Node, Edge}
-use Rattle.time_history.specs.History.{Known}
+use Rattle.time_history.specs.History.{UpdateList}
 use Rattle.time_history.specs.declared.updates.Update.{Update}
 use Rattle.graph_store.specs.declared.edges.EdgeParts.{EdgeParts}
 use Rattle.graph_store.specs.Histories.{updates_in}
-use Rattle.graph_store.specs.Told.{updates_of_number}
+use Rattle.graph_store.specs.Telling.{updates_of_number}
 use Rattle.graph_store.specs.Contents.{Contents, AreContents, edge_name}
 use Rattle.graph_store.proofs.Listed.{list_any-place}
 
@@ -46,19 +46,19 @@ nowhere p (x ∷ xs) e = go (position p (x ∷ xs)) refl
     go (Some i) h = absurd (true≢false (sym (one_found p (x ∷ xs) i x h) ∙ e))
 
 -- a history in place
-pub updates_at : (items : List Known) (n : ℕ) (x : Known) → n < length items → x ≡ get_or items n x → updates_of_number (updates_in items) n ≡ x.updates
-updates_at items n x lt e = get_or-map (λ (h : Known). h.updates) items n x [] lt ∙ ap (λ (h : Known). h.updates) (sym e)
+pub updates_at : (items : List UpdateList) (n : ℕ) (x : UpdateList) → n < length items → x ≡ get_or items n x → updates_of_number (updates_in items) n ≡ x.updates
+updates_at items n x lt e = get_or-map (λ (h : UpdateList). h.updates) items n x [] lt ∙ ap (λ (h : UpdateList). h.updates) (sym e)
 
-pub node_in_place : (c : Contents) (items : List Known) (edges : List (List Update)) → AreContents c (updates_in items) edges → (n : ℕ) → n < length c.nodes → n < length items
+pub node_in_place : (c : Contents) (items : List UpdateList) (edges : List (List Update)) → AreContents c (updates_in items) edges → (n : ℕ) → n < length c.nodes → n < length items
 node_in_place c items edges h n lt =
     let a = h.nodes_told.lengths in
     let b = length-map c.nodes Node in
-    let d = length-map items (λ (k : Known). k.updates) in
+    let d = length-map items (λ (k : UpdateList). k.updates) in
     omega (arith, a, b, d)
 
-pub edge_in_place : (c : Contents) (nodes : List (List Update)) (items : List Known) → AreContents c nodes (updates_in items) → (n : ℕ) → n < length c.edges → n < length items
+pub edge_in_place : (c : Contents) (nodes : List (List Update)) (items : List UpdateList) → AreContents c nodes (updates_in items) → (n : ℕ) → n < length c.edges → n < length items
 edge_in_place c nodes items h n lt =
     let a = h.edges_told.lengths in
     let b = length-map c.edges (λ (p : EdgeParts). Edge (edge_name c.nodes c.layers p)) in
-    let d = length-map items (λ (k : Known). k.updates) in
+    let d = length-map items (λ (k : UpdateList). k.updates) in
     omega (arith, a, b, d)

@@ -20,41 +20,41 @@ use Rattle.world_laws.proofs.Arrivals.{about-push}
 use Rattle.world_laws.proofs.Filters.{each_weaker}
 use Rattle.time_history.specs.declared.updates.Update.{Update}
 use Rattle.time_history.specs.Updates.{placed, update_cmp}
-use Rattle.time_history.specs.Told.{named, what_told, event_told, events_told}
+use Rattle.time_history.specs.Telling.{with_key_names, what_told, event_told, events_told}
 use Rattle.graph_store.specs.Filed.{arrived, all_arrived}
-use Rattle.graph_store.specs.Told.{entity_at, updates_of_number, IsKept, AreTold}
+use Rattle.graph_store.specs.Telling.{entity_at, updates_of_number, IsStoredUpdate, TellEvents}
 use Rattle.graph_store.proofs.FiledLaws.{told-placed}
 
 -- names of keys that agree on those below n
-named-same : (names names' : ℕ → List ℕ) (n : ℕ) → ((k : ℕ) → k < n → names' k ≡ names k) → (ps : List (ℕ × Value)) → AllByRecursion (λ (p : ℕ × Value). p.0 < n) ps → named names' ps ≡ named names ps
-named-same names names' n same [] h = refl
-named-same names names' n same (p ∷ ps) h = ap (λ k. put_prop (k, p.1) (named names' ps)) (same p.0 h.0) ∙ ap (put_prop (names p.0, p.1)) (named-same names names' n same ps h.1)
+with_key_names-same : (names names' : ℕ → List ℕ) (n : ℕ) → ((k : ℕ) → k < n → names' k ≡ names k) → (ps : List (ℕ × Value)) → AllByRecursion (λ (p : ℕ × Value). p.0 < n) ps → with_key_names names' ps ≡ with_key_names names ps
+with_key_names-same names names' n same [] h = refl
+with_key_names-same names names' n same (p ∷ ps) h = ap (λ k. put_prop (k, p.1) (with_key_names names' ps)) (same p.0 h.0) ∙ ap (put_prop (names p.0, p.1)) (with_key_names-same names names' n same ps h.1)
 
 module _ (names names' : ℕ → List ℕ) (n m : ℕ) (same : (k : ℕ) → k < n → names' k ≡ names k) (le : n ≤ m) where
-  told-same : (e : Entity) (before : ℕ) (us : List Update) → AllByRecursion (IsKept e n before) us → events_told e names' us ≡ events_told e names us
+  told-same : (e : Entity) (before : ℕ) (us : List Update) → AllByRecursion (IsStoredUpdate e n before) us → events_told e names' us ≡ events_told e names us
   told-same e before [] h = refl
   told-same e before (u ∷ us) h =
-      ap (λ ps. (record { time = u.time; order = u.order; what = what_told e u.kind ps }) ∷ events_told e names' us) (named-same names names' n same u.props h.0.keys)
+      ap (λ ps. (record { time = u.time; order = u.order; what = what_told e u.kind ps }) ∷ events_told e names' us) (with_key_names-same names names' n same u.props h.0.keys)
       ∙ ap (λ xs. event_told e names u ∷ xs) (told-same e before us h.1)
 
-  arrived-same : (e : Entity) (before : ℕ) (us : List Update) → AllByRecursion (IsKept e n before) us → arrived e names' us ≡ arrived e names us
+  arrived-same : (e : Entity) (before : ℕ) (us : List Update) → AllByRecursion (IsStoredUpdate e n before) us → arrived e names' us ≡ arrived e names us
   arrived-same e before [] h = refl
   arrived-same e before (u ∷ us) h =
-      ap (λ ps. (u.arrival, record { time = u.time; order = u.order; what = what_told e u.kind ps }) ∷ arrived e names' us) (named-same names names' n same u.props h.0.keys)
+      ap (λ ps. (u.arrival, record { time = u.time; order = u.order; what = what_told e u.kind ps }) ∷ arrived e names' us) (with_key_names-same names names' n same u.props h.0.keys)
       ∙ ap (λ xs. (u.arrival, event_told e names u) ∷ xs) (arrived-same e before us h.1)
 
   -- more keys leave what is told
-  pub AreTold-keys : (es : List Entity) (hs : List (List Update)) (accepted : List Event) → AreTold names n es hs accepted → AreTold names' m es hs accepted
-  AreTold-keys es hs accepted h = record {
+  pub TellEvents-keys : (es : List Entity) (hs : List (List Update)) (accepted : List Event) → TellEvents names n es hs accepted → TellEvents names' m es hs accepted
+  TellEvents-keys es hs accepted h = record {
     lengths = h.lengths;
     told = λ i lt. told-same (entity_at es i) (length accepted) (updates_of_number hs i) (h.kept i lt) ∙ h.told i lt;
-    kept = λ i lt. each_weaker (IsKept (entity_at es i) n (length accepted)) (IsKept (entity_at es i) m (length accepted))
+    kept = λ i lt. each_weaker (IsStoredUpdate (entity_at es i) n (length accepted)) (IsStoredUpdate (entity_at es i) m (length accepted))
         (λ u k. record { keys = each_weaker (λ (p : ℕ × Value). p.0 < n) (λ (p : ℕ × Value). p.0 < m) (λ p j. omega (arith, j)) u.props k.keys; arrival = k.arrival; kind = k.kind }) (updates_of_number hs i) (h.kept i lt);
     apart = h.apart;
   }
 
   -- and what has arrived
-  pub all_arrived-same : (before : ℕ) (es : List Entity) (hs : List (List Update)) → ((i : ℕ) → i < length es → AllByRecursion (IsKept (entity_at es i) n before) (updates_of_number hs i)) → all_arrived names' es hs ≡ all_arrived names es hs
+  pub all_arrived-same : (before : ℕ) (es : List Entity) (hs : List (List Update)) → ((i : ℕ) → i < length es → AllByRecursion (IsStoredUpdate (entity_at es i) n before) (updates_of_number hs i)) → all_arrived names' es hs ≡ all_arrived names es hs
   all_arrived-same before [] hs kept = refl
   all_arrived-same before (e ∷ es) [] kept = refl
   all_arrived-same before (e ∷ es) (us ∷ hs) kept =
@@ -62,9 +62,9 @@ module _ (names names' : ℕ → List ℕ) (n m : ℕ) (same : (k : ℕ) → k <
       ∙ ap (λ xs. arrived e names us ++ xs) (all_arrived-same before es hs (λ i lt. kept (suc i) (omega arith)))
 
 -- what is kept stays so where an event more is accepted
-kept_after : (e : Entity) (n : ℕ) (accepted : List Event) (x : Event) (us : List Update) → AllByRecursion (IsKept e n (length accepted)) us → AllByRecursion (IsKept e n (length (accepted ++ x ∷ []))) us
+kept_after : (e : Entity) (n : ℕ) (accepted : List Event) (x : Event) (us : List Update) → AllByRecursion (IsStoredUpdate e n (length accepted)) us → AllByRecursion (IsStoredUpdate e n (length (accepted ++ x ∷ []))) us
 kept_after e n accepted x us h =
-    each_weaker (IsKept e n (length accepted)) (IsKept e n (length (accepted ++ x ∷ [])))
+    each_weaker (IsStoredUpdate e n (length accepted)) (IsStoredUpdate e n (length (accepted ++ x ∷ [])))
     (λ u k. let l = length_push accepted x in let a = k.arrival in record { keys = k.keys; arrival = omega arith; kind = k.kind }) us h
 
 not_about : (e : Entity) (x : Event) → (e ≡ entity_of x → ⊥) → is_about e x ≡ false
@@ -78,9 +78,9 @@ about-own e accepted x same =
     about-push e accepted x ∙ ap (λ t. cond t (put_after event_cmp x (about e (arrange accepted))) (about e (arrange accepted))) (ap (λ w. same_entity w (entity_of x)) same ∙ same_entity-refl (entity_of x))
 
 -- an event of no entity among these leaves their histories
-pub AreTold-other : (names : ℕ → List ℕ) (n : ℕ) (es : List Entity) (hs : List (List Update)) (accepted : List Event) (x : Event) → ((i : ℕ) → i < length es → entity_at es i ≡ entity_of x → ⊥)
-    → AreTold names n es hs accepted → AreTold names n es hs (accepted ++ x ∷ [])
-AreTold-other names n es hs accepted x apart h = record {
+pub TellEvents-other : (names : ℕ → List ℕ) (n : ℕ) (es : List Entity) (hs : List (List Update)) (accepted : List Event) (x : Event) → ((i : ℕ) → i < length es → entity_at es i ≡ entity_of x → ⊥)
+    → TellEvents names n es hs accepted → TellEvents names n es hs (accepted ++ x ∷ [])
+TellEvents-other names n es hs accepted x apart h = record {
   lengths = h.lengths;
   told = λ i lt. h.told i lt ∙ sym (about-other (entity_at es i) accepted x (apart i lt));
   kept = λ i lt. kept_after (entity_at es i) n accepted x (updates_of_number hs i) (h.kept i lt);
@@ -96,10 +96,10 @@ each_placed P u (v ∷ us) a h = go (is_lt (update_cmp u v)) (each_placed P u us
     go false k = (h.0, k)
 
 -- an event of one of these entities is placed in its history
-pub AreTold-known : (names : ℕ → List ℕ) (n : ℕ) (es : List Entity) (hs : List (List Update)) (accepted : List Event) (x : Event) (i : ℕ) (u : Update)
-    → i < length es → entity_at es i ≡ entity_of x → event_told (entity_of x) names u ≡ x → IsKept (entity_of x) n (length (accepted ++ x ∷ [])) u
-    → AreTold names n es hs accepted → AreTold names n es (slice_set hs i (placed u (updates_of_number hs i))) (accepted ++ x ∷ [])
-AreTold-known names n es hs accepted x i u lt here told new h = record {
+pub TellEvents-known : (names : ℕ → List ℕ) (n : ℕ) (es : List Entity) (hs : List (List Update)) (accepted : List Event) (x : Event) (i : ℕ) (u : Update)
+    → i < length es → entity_at es i ≡ entity_of x → event_told (entity_of x) names u ≡ x → IsStoredUpdate (entity_of x) n (length (accepted ++ x ∷ [])) u
+    → TellEvents names n es hs accepted → TellEvents names n es (slice_set hs i (placed u (updates_of_number hs i))) (accepted ++ x ∷ [])
+TellEvents-known names n es hs accepted x i u lt here told new h = record {
   lengths = h.lengths ∙ sym (length-set hs i (placed u (updates_of_number hs i)));
   told = λ j j_lt. ⊎_elim
       (λ (same : j ≡ i).
@@ -115,11 +115,11 @@ AreTold-known names n es hs accepted x i u lt here told new h = record {
       (cases_eq j i);
   kept = λ j j_lt. ⊎_elim
       (λ (same : j ≡ i).
-      subst (λ k. AllByRecursion (IsKept (entity_at es k) n (length (accepted ++ x ∷ []))) (updates_of_number hs' k)) (sym same)
-      (subst (AllByRecursion (IsKept (entity_at es i) n (length (accepted ++ x ∷ [])))) (sym changed)
-      (each_placed (IsKept (entity_at es i) n (length (accepted ++ x ∷ []))) u (updates_of_number hs i) (subst (λ e. IsKept e n (length (accepted ++ x ∷ [])) u) (sym here) new) (kept_after (entity_at es i) n accepted x (updates_of_number hs i) (h.kept i lt)))))
+      subst (λ k. AllByRecursion (IsStoredUpdate (entity_at es k) n (length (accepted ++ x ∷ []))) (updates_of_number hs' k)) (sym same)
+      (subst (AllByRecursion (IsStoredUpdate (entity_at es i) n (length (accepted ++ x ∷ [])))) (sym changed)
+      (each_placed (IsStoredUpdate (entity_at es i) n (length (accepted ++ x ∷ []))) u (updates_of_number hs i) (subst (λ e. IsStoredUpdate e n (length (accepted ++ x ∷ [])) u) (sym here) new) (kept_after (entity_at es i) n accepted x (updates_of_number hs i) (h.kept i lt)))))
       (λ (other : j ≡ i → ⊥).
-      subst (AllByRecursion (IsKept (entity_at es j) n (length (accepted ++ x ∷ [])))) (sym (get_or-set_other hs i j (placed u (updates_of_number hs i)) [] other))
+      subst (AllByRecursion (IsStoredUpdate (entity_at es j) n (length (accepted ++ x ∷ [])))) (sym (get_or-set_other hs i j (placed u (updates_of_number hs i)) [] other))
       (kept_after (entity_at es j) n accepted x (updates_of_number hs j) (h.kept j j_lt)))
       (cases_eq j i);
   apart = h.apart;
@@ -132,10 +132,10 @@ AreTold-known names n es hs accepted x i u lt here told new h = record {
     changed = get_or-set_same hs i (placed u (updates_of_number hs i)) [] (subst (λ k. i < k) h.lengths lt)
 
 -- an event of a new entity begins its history
-pub AreTold-new : (names : ℕ → List ℕ) (n : ℕ) (es : List Entity) (hs : List (List Update)) (accepted : List Event) (x : Event) (u : Update)
-    → ((i : ℕ) → i < length es → entity_at es i ≡ entity_of x → ⊥) → about (entity_of x) (arrange accepted) ≡ [] → event_told (entity_of x) names u ≡ x → IsKept (entity_of x) n (length (accepted ++ x ∷ [])) u
-    → AreTold names n es hs accepted → AreTold names n (es ++ entity_of x ∷ []) (hs ++ (u ∷ []) ∷ []) (accepted ++ x ∷ [])
-AreTold-new names n es hs accepted x u apart none told new h = record {
+pub TellEvents-new : (names : ℕ → List ℕ) (n : ℕ) (es : List Entity) (hs : List (List Update)) (accepted : List Event) (x : Event) (u : Update)
+    → ((i : ℕ) → i < length es → entity_at es i ≡ entity_of x → ⊥) → about (entity_of x) (arrange accepted) ≡ [] → event_told (entity_of x) names u ≡ x → IsStoredUpdate (entity_of x) n (length (accepted ++ x ∷ [])) u
+    → TellEvents names n es hs accepted → TellEvents names n (es ++ entity_of x ∷ []) (hs ++ (u ∷ []) ∷ []) (accepted ++ x ∷ [])
+TellEvents-new names n es hs accepted x u apart none told new h = record {
   lengths = length_push es (entity_of x) ∙ (ap (λ k. k + 1) h.lengths ∙ sym (length_push hs (u ∷ [])));
   told = λ i lt. ⊎_elim
       (λ (old : i < length es).
@@ -150,13 +150,13 @@ AreTold-new names n es hs accepted x u apart none told new h = record {
       (cases_lt i (length es));
   kept = λ i lt. ⊎_elim
       (λ (old : i < length es).
-      subst (λ e. AllByRecursion (IsKept e n (length (accepted ++ x ∷ []))) (updates_of_number (hs ++ (u ∷ []) ∷ []) i)) (sym (get_or-append es (entity_of x ∷ []) (Node []) i old))
-      (subst (AllByRecursion (IsKept (entity_at es i) n (length (accepted ++ x ∷ [])))) (sym (get_or-append hs ((u ∷ []) ∷ []) [] i (subst (λ k. i < k) h.lengths old)))
+      subst (λ e. AllByRecursion (IsStoredUpdate e n (length (accepted ++ x ∷ []))) (updates_of_number (hs ++ (u ∷ []) ∷ []) i)) (sym (get_or-append es (entity_of x ∷ []) (Node []) i old))
+      (subst (AllByRecursion (IsStoredUpdate (entity_at es i) n (length (accepted ++ x ∷ [])))) (sym (get_or-append hs ((u ∷ []) ∷ []) [] i (subst (λ k. i < k) h.lengths old)))
       (kept_after (entity_at es i) n accepted x (updates_of_number hs i) (h.kept i old))))
       (λ (high : length es ≤ i).
-      subst (λ k. AllByRecursion (IsKept (entity_at (es ++ entity_of x ∷ []) k) n (length (accepted ++ x ∷ []))) (updates_of_number (hs ++ (u ∷ []) ∷ []) k)) (sym (last i lt high))
-      (subst (λ e. AllByRecursion (IsKept e n (length (accepted ++ x ∷ []))) (updates_of_number (hs ++ (u ∷ []) ∷ []) (length es))) (sym (get_or-append_seam es (entity_of x) [] (Node [])))
-      (subst (AllByRecursion (IsKept (entity_of x) n (length (accepted ++ x ∷ [])))) (sym mine) (new, tt))))
+      subst (λ k. AllByRecursion (IsStoredUpdate (entity_at (es ++ entity_of x ∷ []) k) n (length (accepted ++ x ∷ []))) (updates_of_number (hs ++ (u ∷ []) ∷ []) k)) (sym (last i lt high))
+      (subst (λ e. AllByRecursion (IsStoredUpdate e n (length (accepted ++ x ∷ []))) (updates_of_number (hs ++ (u ∷ []) ∷ []) (length es))) (sym (get_or-append_seam es (entity_of x) [] (Node [])))
+      (subst (AllByRecursion (IsStoredUpdate (entity_of x) n (length (accepted ++ x ∷ [])))) (sym mine) (new, tt))))
       (cases_lt i (length es));
   apart = λ i j i_lt j_lt e. ⊎_elim
       (λ (old_i : i < length es). ⊎_elim
@@ -177,10 +177,10 @@ AreTold-new names n es hs accepted x u apart none told new h = record {
     mine = ap (updates_of_number (hs ++ (u ∷ []) ∷ [])) h.lengths ∙ get_or-append_seam hs (u ∷ []) [] []
 
 -- an entity with no event begins with an empty history
-pub AreTold-empty : (names : ℕ → List ℕ) (n : ℕ) (es : List Entity) (hs : List (List Update)) (accepted : List Event) (e : Entity)
+pub TellEvents-empty : (names : ℕ → List ℕ) (n : ℕ) (es : List Entity) (hs : List (List Update)) (accepted : List Event) (e : Entity)
     → ((i : ℕ) → i < length es → entity_at es i ≡ e → ⊥) → about e (arrange accepted) ≡ []
-    → AreTold names n es hs accepted → AreTold names n (es ++ e ∷ []) (hs ++ [] ∷ []) accepted
-AreTold-empty names n es hs accepted e apart none h = record {
+    → TellEvents names n es hs accepted → TellEvents names n (es ++ e ∷ []) (hs ++ [] ∷ []) accepted
+TellEvents-empty names n es hs accepted e apart none h = record {
   lengths = length_push es e ∙ (ap (λ k. k + 1) h.lengths ∙ sym (length_push hs []));
   told = λ i lt. ⊎_elim
       (λ (old : i < length es).
@@ -193,11 +193,11 @@ AreTold-empty names n es hs accepted e apart none h = record {
       (cases_lt i (length es));
   kept = λ i lt. ⊎_elim
       (λ (old : i < length es).
-      subst (λ w. AllByRecursion (IsKept w n (length accepted)) (updates_of_number (hs ++ [] ∷ []) i)) (sym (get_or-append es (e ∷ []) (Node []) i old))
-      (subst (AllByRecursion (IsKept (entity_at es i) n (length accepted))) (sym (get_or-append hs ([] ∷ []) [] i (subst (λ k. i < k) h.lengths old))) (h.kept i old)))
+      subst (λ w. AllByRecursion (IsStoredUpdate w n (length accepted)) (updates_of_number (hs ++ [] ∷ []) i)) (sym (get_or-append es (e ∷ []) (Node []) i old))
+      (subst (AllByRecursion (IsStoredUpdate (entity_at es i) n (length accepted))) (sym (get_or-append hs ([] ∷ []) [] i (subst (λ k. i < k) h.lengths old))) (h.kept i old)))
       (λ (high : length es ≤ i).
-      subst (λ k. AllByRecursion (IsKept (entity_at (es ++ e ∷ []) k) n (length accepted)) (updates_of_number (hs ++ [] ∷ []) k)) (sym (last i lt high))
-      (subst (AllByRecursion (IsKept (entity_at (es ++ e ∷ []) (length es)) n (length accepted))) (sym mine) tt))
+      subst (λ k. AllByRecursion (IsStoredUpdate (entity_at (es ++ e ∷ []) k) n (length accepted)) (updates_of_number (hs ++ [] ∷ []) k)) (sym (last i lt high))
+      (subst (AllByRecursion (IsStoredUpdate (entity_at (es ++ e ∷ []) (length es)) n (length accepted))) (sym mine) tt))
       (cases_lt i (length es));
   apart = λ i j i_lt j_lt same. ⊎_elim
       (λ (old_i : i < length es). ⊎_elim

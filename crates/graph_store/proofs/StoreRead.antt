@@ -9,7 +9,7 @@ use Rattle.graph_model.specs.Interval.{is_inside}
 use Rattle.graph_model.specs.Names.{same_name}
 use Rattle.graph_model.specs.Rising.{Rises}
 use Rattle.graph_model.specs.World.{IsLawful, allows, type_cmp, put_type}
-use Rattle.graph_model.specs.Accepting.{Counted, Events, Nodes, Layers, NodeKeys, EdgeKeys, Types, count_of, limit_of, node_events, edge_events, node_names, layer_names, type_names}
+use Rattle.graph_model.specs.Accepting.{Quantity, Events, Nodes, Layers, NodeKeys, EdgeKeys, Types, count_of, limit_of, node_events, edge_events, node_names, layer_names, type_names}
 use Rattle.world_laws.proofs.Order.{type_total}
 use Rattle.world_laws.proofs.RisingItems.{Rises-put}
 use Rattle.world_laws.proofs.Lawful.{all_pass}
@@ -18,7 +18,7 @@ use Rattle.time_history.specs.declared.updates.Update.{Update}
 use Rattle.graph_store.specs.Contents.{Contents, AreContents, name_at, base_of}
 use Rattle.graph_store.specs.Indexed.{IsIndexed}
 use Rattle.graph_store.specs.Lawful.{AreJudged}
-use Rattle.graph_store.specs.Typed.{types_named}
+use Rattle.graph_store.specs.TypeIndex.{types_named}
 use Rattle.graph_store.proofs.LawfulLaws.{AreJudged-typed}
 use Rattle.graph_store.proofs.JudgeLaws.{count_is, count_keys, names_of}
 
@@ -41,7 +41,7 @@ IsLawful-contents c h ordered rise =
 -- how many there are of each sort
 module _ (c : Contents) (node_updates edge_updates : List (List Update)) (h : AreContents c node_updates edge_updates) (indexed : IsIndexed c)
     (once_node_keys : IsDistinct same_name (map (λ (p : List ℕ × ValueType). p.0) c.node_keys)) (once_edge_keys : IsDistinct same_name (map (λ (p : List ℕ × ValueType). p.0) c.edge_keys)) where
-  pub limits : length c.accepted ≤ 4194304 → length c.nodes ≤ 1048576 → length c.layers ≤ 64 → length c.kinds ≤ 4096 → length c.node_keys ≤ 256 → length c.edge_keys ≤ 256 → (k : Counted) → count_of k c.accepted c.types ≤ limit_of k
+  pub limits : length c.accepted ≤ 4194304 → length c.nodes ≤ 1048576 → length c.layers ≤ 64 → length c.kinds ≤ 4096 → length c.node_keys ≤ 256 → length c.edge_keys ≤ 256 → (k : Quantity) → count_of k c.accepted c.types ≤ limit_of k
   limits events nodes layers kinds node_keys edge_keys Events = events
   limits events nodes layers kinds node_keys edge_keys Nodes =
       subst (λ n. n ≤ 1048576) (count_is c.nodes (node_names c.accepted c.types) indexed.node_names (λ n. h.known_nodes n ∙ names_of c.accepted c.types n)) nodes

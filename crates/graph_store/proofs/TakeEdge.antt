@@ -17,32 +17,32 @@ use Rattle.world_laws.proofs.Filters.{each_weaker}
 use Rattle.time_history.specs.declared.updates.Kind.{Kind}
 use Rattle.time_history.specs.declared.updates.Update.{Update}
 use Rattle.time_history.specs.Kinds.{is_node, is_delete}
-use Rattle.time_history.specs.History.{Known}
+use Rattle.time_history.specs.History.{UpdateList}
 use Rattle.std.specs.Global.{Vec}
-use Rattle.name_intern.specs.Interned.{Interned}
+use Rattle.name_intern.specs.NameIndex.{NameIndex}
 use Rattle.graph_store.specs.declared.store.Store.TheInside.{Inside}
-use Rattle.graph_store.specs.Kept.{contents, IsStored}
+use Rattle.graph_store.specs.StoreInvariant.{contents, IsStored}
 use Rattle.graph_store.specs.Indexed.{IsIndexed}
 use Rattle.graph_store.specs.Filed.{all_arrived, by_arrival}
 use Rattle.graph_store.specs.Histories.{updates_in}
-use Rattle.graph_store.specs.Accepted.{edge_event, parts_in, with_edge_event}
+use Rattle.graph_store.specs.WithEvent.{edge_event, parts_in, with_edge_event}
 use Rattle.graph_store.specs.Lawful.{AreJudged}
 use Rattle.graph_store.proofs.LawfulLaws.{AreJudged-push}
 use Rattle.time_history.specs.declared.updates.Kind.TheVariants.{Node as OfNode, Add, Delete}
-use Rattle.time_history.specs.Told.{event_told, fits}
+use Rattle.time_history.specs.Telling.{event_told, fits}
 use Rattle.time_history.proofs.Held.{all_from_each}
 use Rattle.graph_store.specs.declared.taking.Arrival.{Arrival}
 use Rattle.graph_store.specs.declared.edges.EdgeParts.{EdgeParts}
 use Rattle.graph_store.specs.declared.pairs.Ends.{Ends}
-use Rattle.graph_store.specs.Parts.{same_parts, parts_at}
+use Rattle.graph_store.specs.EdgeParts.{same_parts, parts_at}
 use Rattle.indexmap.specs.IndexSet.{insert_key}
 use Rattle.graph_model.specs.Names.{same_name}
-use Rattle.graph_store.specs.Linked.{Linked}
+use Rattle.graph_store.specs.EdgeIndex.{EdgeIndex}
 use Rattle.graph_store.specs.Keys.{with_keys, key_name, AreNumbered}
-use Rattle.graph_store.specs.Told.{entity_at, updates_of_number, IsKept}
-use Rattle.graph_store.specs.Taken.{update_of, with_update, with_ends, with_end_histories, HasEdge, IsNext, IsTaken}
-use Rattle.graph_store.specs.Typed.{types_named, AreTyped}
-use Rattle.graph_store.proofs.TypeLaws.{types_named-insert, AreTyped-insert}
+use Rattle.graph_store.specs.Telling.{entity_at, updates_of_number, IsStoredUpdate}
+use Rattle.graph_store.specs.WithUpdate.{update_of, with_update, with_ends, with_end_histories, HasEdge, ArrivesNext, TakeUpdate}
+use Rattle.graph_store.specs.TypeIndex.{types_named, IsTypeIndex}
+use Rattle.graph_store.proofs.TypeLaws.{types_named-insert, IsTypeIndex-insert}
 use Rattle.graph_store.specs.Contents.{Contents, AreContents, edge_name, node_entities, edge_entities}
 use Rattle.graph_store.proofs.Readers.{none_found}
 use Rattle.graph_store.proofs.EdgeNames.{known_edge}
@@ -52,7 +52,7 @@ use Rattle.graph_store.proofs.TakeNode.{few_updates}
 
 module _ (c : Contents) (node_updates edge_updates : List (List Update)) (h : AreContents c node_updates edge_updates) (a : Arrival) (last : a.number ≡ length c.accepted) (kind : is_node a.kind ≡ false) where
   -- each edge's history takes an event that comes next
-  pub next_of_edge : (values : List (ℕ × Value)) (i : ℕ) → i < length edge_updates → IsNext (update_of a values) (updates_of_number edge_updates i)
+  pub next_of_edge : (values : List (ℕ × Value)) (i : ℕ) → i < length edge_updates → ArrivesNext (update_of a values) (updates_of_number edge_updates i)
   next_of_edge values i lt =
       let lengths = h.edges_told.lengths in
       let entities = length-map c.edges (λ (p : EdgeParts). Edge (edge_name c.nodes c.layers p)) in
@@ -62,9 +62,9 @@ module _ (c : Contents) (node_updates edge_updates : List (List Update)) (h : Ar
       get_or-map (λ (p : EdgeParts). Edge (edge_name c.nodes c.layers p)) c.edges i (record { src = 0; dst = 0; layer = 0 }) (Node []) (omega arith) in
       record {
         last = all_from_each (λ (v : Update). v.arrival < a.number) (updates_of_number edge_updates i)
-            (each_weaker (IsKept (entity_at (edge_entities c.nodes c.layers c.edges) i) (length c.edge_keys) (length c.accepted)) (λ (v : Update). v.arrival < a.number) (λ v k. let b = k.arrival in omega arith) (updates_of_number edge_updates i) kept);
+            (each_weaker (IsStoredUpdate (entity_at (edge_entities c.nodes c.layers c.edges) i) (length c.edge_keys) (length c.accepted)) (λ (v : Update). v.arrival < a.number) (λ v k. let b = k.arrival in omega arith) (updates_of_number edge_updates i) kept);
         sort = inr (all_from_each (λ (v : Update). is_node v.kind ≡ false) (update_of a values ∷ updates_of_number edge_updates i)
-            (kind, each_weaker (IsKept (entity_at (edge_entities c.nodes c.layers c.edges) i) (length c.edge_keys) (length c.accepted)) (λ (v : Update). is_node v.kind ≡ false) (λ v k. not_node v.kind (subst (λ e. fits e v.kind ≡ true) at k.kind)) (updates_of_number edge_updates i) kept));
+            (kind, each_weaker (IsStoredUpdate (entity_at (edge_entities c.nodes c.layers c.edges) i) (length c.edge_keys) (length c.accepted)) (λ (v : Update). is_node v.kind ≡ false) (λ v k. not_node v.kind (subst (λ e. fits e v.kind ≡ true) at k.kind)) (updates_of_number edge_updates i) kept));
         few = let f = few_updates (key_name c.edge_keys) (length c.edge_keys) (edge_entities c.nodes c.layers c.edges) edge_updates c.accepted h.edges_told i below in omega arith;
       }
     where
@@ -83,8 +83,8 @@ module _ (c : Contents) (node_updates edge_updates : List (List Update)) (h : Ar
   -- the histories that took it go with the contents that have it
   pub AreContents-taken_edge : (x : Event) (edge : EdgeName) (props : List (List ℕ × Value)) → entity_of x ≡ Edge edge → props_of x ≡ props
       → ((values : List (ℕ × Value)) → AreNumbered (with_keys c.edge_keys props) props values → event_told (entity_of x) (key_name (with_keys c.edge_keys props)) (update_of a values) ≡ x)
-      → (before after : Linked) → before.edges ≡ c.edges → HasEdge (position (same_entity (Edge edge)) (edge_entities c.nodes c.layers c.edges)) (with_ends c.nodes edge) (insert_key same_name c.layers edge.layer) edge before after
-      → (updates : List (List Update)) → IsTaken (with_keys c.edge_keys props) props a (position (same_entity (Edge edge)) (edge_entities c.nodes c.layers c.edges)) edge_updates updates
+      → (before after : EdgeIndex) → before.edges ≡ c.edges → HasEdge (position (same_entity (Edge edge)) (edge_entities c.nodes c.layers c.edges)) (with_ends c.nodes edge) (insert_key same_name c.layers edge.layer) edge before after
+      → (updates : List (List Update)) → TakeUpdate (with_keys c.edge_keys props) props a (position (same_entity (Edge edge)) (edge_entities c.nodes c.layers c.edges)) edge_updates updates
       → WithEdge x edge props after.edges updates
   AreContents-taken_edge x edge props own set tells before after edges has updates t = go (position (same_entity (Edge edge)) (edge_entities c.nodes c.layers c.edges)) refl has t.filed
     where
@@ -94,7 +94,7 @@ module _ (c : Contents) (node_updates edge_updates : List (List Update)) (h : Ar
       told : event_told (entity_of x) (key_name (with_keys c.edge_keys props)) u ≡ x
       told = tells t.values t.numbered
 
-      new : IsKept (entity_of x) (length (with_keys c.edge_keys props)) (length (c.accepted ++ x ∷ [])) u
+      new : IsStoredUpdate (entity_of x) (length (with_keys c.edge_keys props)) (length (c.accepted ++ x ∷ [])) u
       new = let more = length_push c.accepted x in record { keys = t.numbered.below; arrival = omega arith; kind = subst (λ e. fits e a.kind ≡ true) (sym own) (ap not kind) }
 
       go : (o : Option ℕ) → position (same_entity (Edge edge)) (edge_entities c.nodes c.layers c.edges) ≡ o → HasEdge o (with_ends c.nodes edge) (insert_key same_name c.layers edge.layer) edge before after → updates ≡ with_update o u edge_updates
@@ -145,14 +145,14 @@ told_as time order n kind edge keys props values numbered =
     ∙ ap (edge_event time order kind edge) numbered.names
 
 -- the fields of a store that took the event
-module _ (s : Inside) (h : IsStored s) (indexed : IsIndexed (contents s)) (time : ℤ) (order : ℕ) (kind : Kind) (edge : EdgeName) (props : List (List ℕ × Value)) (nodes layers : Interned) (keys : List (List ℕ × ValueType)) (links : Linked) (node_histories edge_histories : Vec Known) where
+module _ (s : Inside) (h : IsStored s) (indexed : IsIndexed (contents s)) (time : ℤ) (order : ℕ) (kind : Kind) (edge : EdgeName) (props : List (List ℕ × Value)) (nodes layers : NameIndex) (keys : List (List ℕ × ValueType)) (links : EdgeIndex) (node_histories edge_histories : Vec UpdateList) where
   abbrev pub edge_taken : Inside
   edge_taken = record s { events = s.events + 1; nodes = nodes; layers = layers; edge_keys = keys; links = links; node_histories = node_histories; edge_histories = edge_histories }
 
   module _ (names : nodes.names ≡ with_ends s.nodes.names edge) (limit : nodes.limit ≡ s.nodes.limit) (in_layers : layers.names ≡ insert_key same_name s.layers.names edge.layer) (layer_limit : layers.limit ≡ s.layers.limit)
       (numbered : keys ≡ with_keys s.edge_keys props) (linked : links.nodes ≡ length nodes.names) (filed : updates_in node_histories.items ≡ with_end_histories s.nodes.names edge (updates_in s.node_histories.items))
       (has : HasEdge (position (same_entity (Edge edge)) (edge_entities s.nodes.names s.layers.names s.links.edges)) nodes.names layers.names edge s.links links)
-      (taken : IsTaken (with_keys s.edge_keys props) props (edge_arrival time order kind s.events) (position (same_entity (Edge edge)) (edge_entities s.nodes.names s.layers.names s.links.edges)) (updates_in s.edge_histories.items) (updates_in edge_histories.items))
+      (taken : TakeUpdate (with_keys s.edge_keys props) props (edge_arrival time order kind s.events) (position (same_entity (Edge edge)) (edge_entities s.nodes.names s.layers.names s.links.edges)) (updates_in s.edge_histories.items) (updates_in edge_histories.items))
       (of_edge : is_node kind ≡ false) (none : is_delete kind ≡ true → props ≡ []) where
     x : Event
     x = edge_event time order kind edge props
@@ -176,7 +176,7 @@ module _ (s : Inside) (h : IsStored s) (indexed : IsIndexed (contents s)) (time 
     types : types_named nodes.names s.kinds.names s.types.numbers ≡ types_named s.nodes.names s.kinds.names s.types.numbers
     types =
         ap (λ ns. types_named ns s.kinds.names s.types.numbers) names
-        ∙ (types_named-insert (insert_key same_name s.nodes.names edge.src) s.kinds.names edge.dst s.types.numbers (AreTyped-insert s.nodes.names s.kinds.names edge.src s.types.numbers h.typed_within)
+        ∙ (types_named-insert (insert_key same_name s.nodes.names edge.src) s.kinds.names edge.dst s.types.numbers (IsTypeIndex-insert s.nodes.names s.kinds.names edge.src s.types.numbers h.typed_within)
         ∙ types_named-insert s.nodes.names s.kinds.names edge.src s.types.numbers h.typed_within)
 
     pub contents-edge_taken : contents edge_taken ≡ with_edge_event (contents s) (edge_event time order kind edge props) edge props
@@ -219,6 +219,6 @@ module _ (s : Inside) (h : IsStored s) (indexed : IsIndexed (contents s)) (time 
       few_layers = subst (λ (ls : List (List ℕ)). length ls ≤ 64) (sym in_layers) few_layers;
       few_node_keys = h.few_node_keys;
       few_edge_keys = subst (λ (ks : List (List ℕ × ValueType)). length ks ≤ 256) (sym numbered) few_keys;
-      typed_within = subst (λ ns. AreTyped ns s.kinds.names s.types.numbers) (sym names)
-          (AreTyped-insert (insert_key same_name s.nodes.names edge.src) s.kinds.names edge.dst s.types.numbers (AreTyped-insert s.nodes.names s.kinds.names edge.src s.types.numbers h.typed_within));
+      typed_within = subst (λ ns. IsTypeIndex ns s.kinds.names s.types.numbers) (sym names)
+          (IsTypeIndex-insert (insert_key same_name s.nodes.names edge.src) s.kinds.names edge.dst s.types.numbers (IsTypeIndex-insert s.nodes.names s.kinds.names edge.src s.types.numbers h.typed_within));
     }

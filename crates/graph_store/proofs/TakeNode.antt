@@ -18,28 +18,28 @@ use Rattle.graph_model.specs.World.{arrange, event_cmp}
 use Rattle.world_laws.proofs.Order.{same_name-exact}
 use Rattle.world_laws.proofs.Counts.{length_in_order, length_filter_le}
 use Rattle.world_laws.proofs.Filters.{each_weaker}
-use Rattle.name_intern.specs.Interned.{Interned}
+use Rattle.name_intern.specs.NameIndex.{NameIndex}
 use Rattle.time_history.specs.declared.updates.Kind.TheVariants.{Node as OfNode}
 use Rattle.time_history.specs.declared.updates.Update.{Update}
 use Rattle.time_history.specs.Kinds.{is_node}
-use Rattle.time_history.specs.History.{Known}
-use Rattle.time_history.specs.Told.{event_told, fits}
+use Rattle.time_history.specs.History.{UpdateList}
+use Rattle.time_history.specs.Telling.{event_told, fits}
 use Rattle.time_history.proofs.Held.{all_from_each}
 use Rattle.graph_store.specs.declared.taking.Arrival.{Arrival}
 use Rattle.std.specs.Global.{Vec}
 use Rattle.graph_store.specs.declared.store.Store.TheInside.{Inside}
-use Rattle.graph_store.specs.Kept.{contents, IsStored}
+use Rattle.graph_store.specs.StoreInvariant.{contents, IsStored}
 use Rattle.graph_store.specs.Lawful.{AreJudged}
 use Rattle.graph_store.specs.Keys.{with_keys, key_name}
-use Rattle.graph_store.specs.Linked.{Linked}
+use Rattle.graph_store.specs.EdgeIndex.{EdgeIndex}
 use Rattle.graph_store.specs.Filed.{all_arrived, by_arrival}
-use Rattle.graph_store.specs.Told.{entity_at, updates_of_number, IsKept, AreTold}
+use Rattle.graph_store.specs.Telling.{entity_at, updates_of_number, IsStoredUpdate, TellEvents}
 use Rattle.graph_store.specs.Histories.{updates_in}
-use Rattle.graph_store.specs.Taken.{update_of, with_update, IsNext, IsTaken}
-use Rattle.graph_store.specs.Typed.{types_named, AreTyped}
-use Rattle.graph_store.proofs.TypeLaws.{types_named-insert, AreTyped-insert}
+use Rattle.graph_store.specs.WithUpdate.{update_of, with_update, ArrivesNext, TakeUpdate}
+use Rattle.graph_store.specs.TypeIndex.{types_named, IsTypeIndex}
+use Rattle.graph_store.proofs.TypeLaws.{types_named-insert, IsTypeIndex-insert}
 use Rattle.graph_store.specs.Contents.{Contents, AreContents, name_at, node_entities, edge_entities}
-use Rattle.graph_store.specs.Accepted.{node_event, with_node_event}
+use Rattle.graph_store.specs.WithEvent.{node_event, with_node_event}
 use Rattle.graph_store.proofs.Readers.{none_found, one_found}
 use Rattle.graph_store.proofs.Results.{insert_key-new}
 use Rattle.graph_store.proofs.LawfulLaws.{AreJudged-push, allows-node}
@@ -50,7 +50,7 @@ abbrev pub node_arrival : ℤ → ℕ → ℕ → Arrival
 node_arrival time order n = record { time = time; order = order; number = n; kind = OfNode }
 
 -- an entity's history is no longer than the list of accepted events
-pub few_updates : (names : ℕ → List ℕ) (n : ℕ) (es : List Entity) (hs : List (List Update)) (accepted : List Event) → AreTold names n es hs accepted → (i : ℕ) → i < length es → length (updates_of_number hs i) ≤ length accepted
+pub few_updates : (names : ℕ → List ℕ) (n : ℕ) (es : List Entity) (hs : List (List Update)) (accepted : List Event) → TellEvents names n es hs accepted → (i : ℕ) → i < length es → length (updates_of_number hs i) ≤ length accepted
 few_updates names n es hs accepted h i lt =
     let told = sym (length-map (updates_of_number hs i) (event_told (entity_at es i) names)) ∙ ap length (h.told i lt) in
     let le = length_filter_le (is_about (entity_at es i)) (arrange accepted) in
@@ -59,7 +59,7 @@ few_updates names n es hs accepted h i lt =
 
 module _ (c : Contents) (node_updates edge_updates : List (List Update)) (h : AreContents c node_updates edge_updates) (time : ℤ) (order n : ℕ) (last : n ≡ length c.accepted) where
   -- each node's history takes an update that comes next
-  pub next_of_node : (values : List (ℕ × Value)) (i : ℕ) → i < length node_updates → IsNext (update_of (node_arrival time order n) values) (updates_of_number node_updates i)
+  pub next_of_node : (values : List (ℕ × Value)) (i : ℕ) → i < length node_updates → ArrivesNext (update_of (node_arrival time order n) values) (updates_of_number node_updates i)
   next_of_node values i lt =
       let lengths = h.nodes_told.lengths in
       let entities = length-map c.nodes Node in
@@ -68,14 +68,14 @@ module _ (c : Contents) (node_updates edge_updates : List (List Update)) (h : Ar
       let at : entity_at (node_entities c.nodes) i ≡ Node (name_at c.nodes i) = get_or-map Node c.nodes i [] (Node []) (omega arith) in
       record {
         last = all_from_each (λ (v : Update). v.arrival < n) (updates_of_number node_updates i)
-            (each_weaker (IsKept (entity_at (node_entities c.nodes) i) (length c.node_keys) (length c.accepted)) (λ (v : Update). v.arrival < n) (λ v k. let a = k.arrival in omega arith) (updates_of_number node_updates i) kept);
+            (each_weaker (IsStoredUpdate (entity_at (node_entities c.nodes) i) (length c.node_keys) (length c.accepted)) (λ (v : Update). v.arrival < n) (λ v k. let a = k.arrival in omega arith) (updates_of_number node_updates i) kept);
         sort = inl (all_from_each (λ (v : Update). is_node v.kind ≡ true) (update_of (node_arrival time order n) values ∷ updates_of_number node_updates i)
-            (refl, each_weaker (IsKept (entity_at (node_entities c.nodes) i) (length c.node_keys) (length c.accepted)) (λ (v : Update). is_node v.kind ≡ true) (λ v k. subst (λ e. fits e v.kind ≡ true) at k.kind) (updates_of_number node_updates i) kept));
+            (refl, each_weaker (IsStoredUpdate (entity_at (node_entities c.nodes) i) (length c.node_keys) (length c.accepted)) (λ (v : Update). is_node v.kind ≡ true) (λ v k. subst (λ e. fits e v.kind ≡ true) at k.kind) (updates_of_number node_updates i) kept));
         few = let f = few_updates (key_name c.node_keys) (length c.node_keys) (node_entities c.nodes) node_updates c.accepted h.nodes_told i below in omega arith;
       }
 
   -- the histories that took it go with the contents that have it
-  pub AreContents-taken : (name : List ℕ) (props : List (List ℕ × Value)) (updates : List (List Update)) → IsTaken (with_keys c.node_keys props) props (node_arrival time order n) (position (same_name name) c.nodes) node_updates updates
+  pub AreContents-taken : (name : List ℕ) (props : List (List ℕ × Value)) (updates : List (List Update)) → TakeUpdate (with_keys c.node_keys props) props (node_arrival time order n) (position (same_name name) c.nodes) node_updates updates
       → AreContents (with_node_event c time order name props) updates edge_updates
   AreContents-taken name props updates t = go (position (same_name name) c.nodes) refl t.filed
     where
@@ -85,7 +85,7 @@ module _ (c : Contents) (node_updates edge_updates : List (List Update)) (h : Ar
       told : event_told (Node name) (key_name (with_keys c.node_keys props)) u ≡ node_event time order name props
       told = ap (node_event time order name) t.numbered.names
 
-      new : IsKept (Node name) (length (with_keys c.node_keys props)) (length (c.accepted ++ node_event time order name props ∷ [])) u
+      new : IsStoredUpdate (Node name) (length (with_keys c.node_keys props)) (length (c.accepted ++ node_event time order name props ∷ [])) u
       new = let more = length_push c.accepted (node_event time order name props) in record { keys = t.numbered.below; arrival = omega arith; kind = refl }
 
       go : (o : Option ℕ) → position (same_name name) c.nodes ≡ o → updates ≡ with_update o u node_updates → AreContents (with_node_event c time order name props) updates edge_updates
@@ -102,12 +102,12 @@ module _ (c : Contents) (node_updates edge_updates : List (List Update)) (h : Ar
           (subst (λ ns. AreContents (record c { accepted = c.accepted ++ node_event time order name props ∷ []; nodes = ns; node_keys = with_keys c.node_keys props }) (with_update None u node_updates) edge_updates) (sym (insert_key-new same_name c.nodes name absent)) begun)
 
 -- the fields of a store that took the update
-module _ (s : Inside) (h : IsStored s) (time : ℤ) (order : ℕ) (name : List ℕ) (props : List (List ℕ × Value)) (nodes : Interned) (keys : List (List ℕ × ValueType)) (links : Linked) (histories : Vec Known) where
+module _ (s : Inside) (h : IsStored s) (time : ℤ) (order : ℕ) (name : List ℕ) (props : List (List ℕ × Value)) (nodes : NameIndex) (keys : List (List ℕ × ValueType)) (links : EdgeIndex) (histories : Vec UpdateList) where
   abbrev pub node_taken : Inside
   node_taken = record s { events = s.events + 1; nodes = nodes; node_keys = keys; links = links; node_histories = histories }
 
   module _ (names : nodes.names ≡ insert_key same_name s.nodes.names name) (limit : nodes.limit ≡ s.nodes.limit) (numbered : keys ≡ with_keys s.node_keys props) (linked : links.nodes ≡ length nodes.names) (edges : links.edges ≡ s.links.edges) (pairs : links.pairs ≡ s.links.pairs)
-      (taken : IsTaken (with_keys s.node_keys props) props (node_arrival time order s.events) (position (same_name name) s.nodes.names) (updates_in s.node_histories.items) (updates_in histories.items)) where
+      (taken : TakeUpdate (with_keys s.node_keys props) props (node_arrival time order s.events) (position (same_name name) s.nodes.names) (updates_in s.node_histories.items) (updates_in histories.items)) where
     after : AreContents (with_node_event (contents s) time order name props) (updates_in histories.items) (updates_in s.edge_histories.items)
     after = AreContents-taken (contents s) (updates_in s.node_histories.items) (updates_in s.edge_histories.items) h.contents_are time order s.events (sym h.events) name props (updates_in histories.items) taken
 
@@ -146,5 +146,5 @@ module _ (s : Inside) (h : IsStored s) (time : ℤ) (order : ℕ) (name : List �
       few_layers = h.few_layers;
       few_node_keys = subst (λ (ks : List (List ℕ × ValueType)). length ks ≤ 256) (sym numbered) few_keys;
       few_edge_keys = h.few_edge_keys;
-      typed_within = subst (λ ns. AreTyped ns s.kinds.names s.types.numbers) (sym names) (AreTyped-insert s.nodes.names s.kinds.names name s.types.numbers h.typed_within);
+      typed_within = subst (λ ns. IsTypeIndex ns s.kinds.names s.types.numbers) (sym names) (IsTypeIndex-insert s.nodes.names s.kinds.names name s.types.numbers h.typed_within);
     }

@@ -9,26 +9,26 @@ use Rattle.graph_model.specs.Names.{same_name}
 use Rattle.graph_model.specs.World.{type_of, put_type}
 use Rattle.world_laws.proofs.Order.{same_name-exact}
 use Rattle.world_laws.proofs.Filters.{each_append}
-use Rattle.name_intern.specs.Interned.{Interned}
-use Rattle.time_history.specs.History.{Known}
+use Rattle.name_intern.specs.NameIndex.{NameIndex}
+use Rattle.time_history.specs.History.{UpdateList}
 use Rattle.graph_store.specs.declared.store.Store.TheInside.{Inside}
-use Rattle.graph_store.specs.Kept.{contents, IsStored}
+use Rattle.graph_store.specs.StoreInvariant.{contents, IsStored}
 use Rattle.graph_store.specs.Lawful.{AreJudged}
 use Rattle.graph_store.specs.Keys.{key_name}
-use Rattle.graph_store.specs.Linked.{Linked}
+use Rattle.graph_store.specs.EdgeIndex.{EdgeIndex}
 use Rattle.graph_store.specs.Filed.{all_arrived, by_arrival}
 use Rattle.graph_store.specs.Histories.{updates_in}
-use Rattle.graph_store.specs.Taken.{with_history}
-use Rattle.graph_store.specs.Typed.{Typed, types_named, AreTyped}
+use Rattle.graph_store.specs.WithUpdate.{with_history}
+use Rattle.graph_store.specs.TypeIndex.{TypeIndex, types_named, IsTypeIndex}
 use Rattle.graph_store.specs.Contents.{Contents, AreContents, name_at, node_entities, edge_entities}
 use Rattle.graph_store.specs.WithType.{with_type}
 use Rattle.graph_store.proofs.AcceptNode.{name_at-insert}
 use Rattle.graph_store.proofs.AcceptEdge.{length-insert_key}
 use Rattle.graph_store.proofs.AcceptType.{AreContents-typed}
-use Rattle.graph_store.proofs.TypeLaws.{types_named-same, AreTyped-more, Rises-types_named}
+use Rattle.graph_store.proofs.TypeLaws.{types_named-same, IsTypeIndex-more, Rises-types_named}
 
 -- the fields of a store that took the type
-module _ (s : Inside) (h : IsStored s) (node kind : List ℕ) (nodes kinds : Interned) (types : Typed) (links : Linked) (histories : Vec Known) where
+module _ (s : Inside) (h : IsStored s) (node kind : List ℕ) (nodes kinds : NameIndex) (types : TypeIndex) (links : EdgeIndex) (histories : Vec UpdateList) where
   abbrev pub type_taken : Inside
   type_taken = record s { nodes = nodes; kinds = kinds; types = types; links = links; node_histories = histories }
 
@@ -97,6 +97,6 @@ module _ (s : Inside) (h : IsStored s) (node kind : List ℕ) (nodes kinds : Int
       typed_within =
           let at_node = (position-Some (same_name node) nodes.names n [] node_number).0 in
           let at_kind = (position-Some (same_name kind) kinds.names k [] kind_number).0 in
-          subst (AreTyped nodes.names kinds.names) (sym numbered)
-          (each_append (λ (p : ℕ × ℕ). (p.0 < length nodes.names) × (p.1 < length kinds.names)) s.types.numbers ((n, k) ∷ []) (AreTyped-more s.nodes.names nodes.names s.kinds.names kinds.names s.types.numbers more_nodes more_kinds h.typed_within) ((at_node, at_kind), tt));
+          subst (IsTypeIndex nodes.names kinds.names) (sym numbered)
+          (each_append (λ (p : ℕ × ℕ). (p.0 < length nodes.names) × (p.1 < length kinds.names)) s.types.numbers ((n, k) ∷ []) (IsTypeIndex-more s.nodes.names nodes.names s.kinds.names kinds.names s.types.numbers more_nodes more_kinds h.typed_within) ((at_node, at_kind), tt));
     }

@@ -19,16 +19,16 @@ use Rattle.world_laws.proofs.Filters.{each_weaker}
 use Rattle.world_laws.proofs.Order.{type_total, same_name-refl, same_name-exact}
 use Rattle.world_laws.proofs.RisingItems.{Rises-put}
 use Rattle.graph_store.specs.Contents.{name_at}
-use Rattle.graph_store.specs.Typed.{types_named, kind_in, AreTyped}
+use Rattle.graph_store.specs.TypeIndex.{types_named, kind_in, IsTypeIndex}
 use Rattle.graph_store.proofs.AcceptNode.{or-nothing, name_at-insert}
 use Rattle.graph_store.proofs.AcceptEdge.{length-insert_key}
 
 -- numbers that keep their names keep the types
 pub types_named-same : (nodes nodes' kinds kinds' : List (List ℕ)) → ((i : ℕ) → i < length nodes → name_at nodes' i ≡ name_at nodes i) → ((i : ℕ) → i < length kinds → name_at kinds' i ≡ name_at kinds i)
-    → (numbers : List (ℕ × ℕ)) → AreTyped nodes kinds numbers → types_named nodes' kinds' numbers ≡ types_named nodes kinds numbers
+    → (numbers : List (ℕ × ℕ)) → IsTypeIndex nodes kinds numbers → types_named nodes' kinds' numbers ≡ types_named nodes kinds numbers
 types_named-same nodes nodes' kinds kinds' same same_kinds numbers within = go [] numbers within
   where
-    go : (types : List (List ℕ × List ℕ)) (ps : List (ℕ × ℕ)) → AreTyped nodes kinds ps
+    go : (types : List (List ℕ × List ℕ)) (ps : List (ℕ × ℕ)) → IsTypeIndex nodes kinds ps
         → fold (λ ts p. put_type (name_at nodes' p.0, name_at kinds' p.1) ts) types ps ≡ fold (λ ts p. put_type (name_at nodes p.0, name_at kinds p.1) ts) types ps
     go types [] h = refl
     go types (p ∷ ps) h =
@@ -36,15 +36,15 @@ types_named-same nodes nodes' kinds kinds' same same_kinds numbers within = go [
         ∙ go (put_type (name_at nodes p.0, name_at kinds p.1) types) ps h.1
 
 -- a name more leaves the types, and the numbers that have names
-pub types_named-insert : (nodes kinds : List (List ℕ)) (name : List ℕ) (numbers : List (ℕ × ℕ)) → AreTyped nodes kinds numbers → types_named (insert_key same_name nodes name) kinds numbers ≡ types_named nodes kinds numbers
+pub types_named-insert : (nodes kinds : List (List ℕ)) (name : List ℕ) (numbers : List (ℕ × ℕ)) → IsTypeIndex nodes kinds numbers → types_named (insert_key same_name nodes name) kinds numbers ≡ types_named nodes kinds numbers
 types_named-insert nodes kinds name numbers within = types_named-same nodes (insert_key same_name nodes name) kinds kinds (name_at-insert nodes name) (λ i lt. refl) numbers within
 
-pub AreTyped-more : (nodes nodes' kinds kinds' : List (List ℕ)) (numbers : List (ℕ × ℕ)) → length nodes ≤ length nodes' → length kinds ≤ length kinds' → AreTyped nodes kinds numbers → AreTyped nodes' kinds' numbers
-AreTyped-more nodes nodes' kinds kinds' numbers more more_kinds within =
+pub IsTypeIndex-more : (nodes nodes' kinds kinds' : List (List ℕ)) (numbers : List (ℕ × ℕ)) → length nodes ≤ length nodes' → length kinds ≤ length kinds' → IsTypeIndex nodes kinds numbers → IsTypeIndex nodes' kinds' numbers
+IsTypeIndex-more nodes nodes' kinds kinds' numbers more more_kinds within =
     each_weaker (λ (p : ℕ × ℕ). (p.0 < length nodes) × (p.1 < length kinds)) (λ (p : ℕ × ℕ). (p.0 < length nodes') × (p.1 < length kinds')) (λ p w. let a = w.0 in let b = w.1 in (omega arith, omega arith)) numbers within
 
-pub AreTyped-insert : (nodes kinds : List (List ℕ)) (name : List ℕ) (numbers : List (ℕ × ℕ)) → AreTyped nodes kinds numbers → AreTyped (insert_key same_name nodes name) kinds numbers
-AreTyped-insert nodes kinds name numbers within = AreTyped-more nodes (insert_key same_name nodes name) kinds kinds numbers (length-insert_key nodes name) (omega arith) within
+pub IsTypeIndex-insert : (nodes kinds : List (List ℕ)) (name : List ℕ) (numbers : List (ℕ × ℕ)) → IsTypeIndex nodes kinds numbers → IsTypeIndex (insert_key same_name nodes name) kinds numbers
+IsTypeIndex-insert nodes kinds name numbers within = IsTypeIndex-more nodes (insert_key same_name nodes name) kinds kinds numbers (length-insert_key nodes name) (omega arith) within
 
 -- ---- the type of a node
 
@@ -135,7 +135,7 @@ Rises-types_named nodes kinds numbers = go [] numbers tt
     go types (p ∷ ps) h = go (put_type (name_at nodes p.0, name_at kinds p.1) types) ps (Rises-put type_cmp type_total (name_at nodes p.0, name_at kinds p.1) types h)
 
 -- where numbers have distinct names, the type of a node is that of its number
-pub type_of-number : (nodes kinds : List (List ℕ)) → ((i j : ℕ) → i < length nodes → j < length nodes → name_at nodes i ≡ name_at nodes j → i ≡ j) → (numbers : List (ℕ × ℕ)) → AreTyped nodes kinds numbers → (n : ℕ) → n < length nodes
+pub type_of-number : (nodes kinds : List (List ℕ)) → ((i j : ℕ) → i < length nodes → j < length nodes → name_at nodes i ≡ name_at nodes j → i ≡ j) → (numbers : List (ℕ × ℕ)) → IsTypeIndex nodes kinds numbers → (n : ℕ) → n < length nodes
     → type_of (types_named nodes kinds numbers) (name_at nodes n) ≡ option_map (name_at kinds) (kind_in numbers n)
 type_of-number nodes kinds apart numbers within n lt = go [] numbers tt within
   where
@@ -151,7 +151,7 @@ type_of-number nodes kinds apart numbers within n lt = go [] numbers tt within
     chosen true None k rest = refl
     chosen false None k rest = refl
 
-    go : (types : List (List ℕ × List ℕ)) (ps : List (ℕ × ℕ)) → Rises type_cmp types → AreTyped nodes kinds ps
+    go : (types : List (List ℕ × List ℕ)) (ps : List (ℕ × ℕ)) → Rises type_cmp types → IsTypeIndex nodes kinds ps
         → type_of (fold (λ ts p. put_type (name_at nodes p.0, name_at kinds p.1) ts) types ps) (name_at nodes n) ≡ option_or (type_of types (name_at nodes n)) (option_map (name_at kinds) (kind_in ps n))
     go types [] h w = sym (option_or-none (type_of types (name_at nodes n)))
     go types (p ∷ ps) h w =
@@ -160,7 +160,7 @@ type_of-number nodes kinds apart numbers within n lt = go [] numbers tt within
         ∙ chosen (nat_eq n p.0) (type_of types (name_at nodes n)) p.1 (kind_in ps n))
 
 -- what is found among the numbers is a number of a type
-pub kind_in-within : (nodes kinds : List (List ℕ)) (numbers : List (ℕ × ℕ)) → AreTyped nodes kinds numbers → (n k : ℕ) → kind_in numbers n ≡ Some k → k < length kinds
+pub kind_in-within : (nodes kinds : List (List ℕ)) (numbers : List (ℕ × ℕ)) → IsTypeIndex nodes kinds numbers → (n k : ℕ) → kind_in numbers n ≡ Some k → k < length kinds
 kind_in-within nodes kinds [] w n k e = cc
 kind_in-within nodes kinds (p ∷ ps) w n k e = go (kind_in-within nodes kinds ps w.1 n k) (nat_eq n p.0) e
   where
@@ -169,7 +169,7 @@ kind_in-within nodes kinds (p ∷ ps) w n k e = go (kind_in-within nodes kinds p
     go later false f = later f
 
 -- a number past those of nodes has no type
-pub kind_in-past : (nodes kinds : List (List ℕ)) (numbers : List (ℕ × ℕ)) → AreTyped nodes kinds numbers → (n : ℕ) → length nodes ≤ n → kind_in numbers n ≡ None
+pub kind_in-past : (nodes kinds : List (List ℕ)) (numbers : List (ℕ × ℕ)) → IsTypeIndex nodes kinds numbers → (n : ℕ) → length nodes ≤ n → kind_in numbers n ≡ None
 kind_in-past nodes kinds [] w n le = refl
 kind_in-past nodes kinds (p ∷ ps) w n le =
     ap (λ b. cond b (Some p.1) (kind_in ps n)) (false_from_ne_true (nat_eq n p.0) (λ e. let same = eqb-true n p.0 e in let lt = w.0.0 in absurd (omega arith)))

@@ -11,12 +11,12 @@ use Rattle.indexmap.specs.IndexSet.{insert_key}
 use Rattle.graph_model.specs.declared.events.Entity.TheVariants.{Node}
 use Rattle.graph_model.specs.Names.{same_name}
 use Rattle.graph_model.specs.Refusal.{Retype, Limit}
-use Rattle.graph_model.specs.World.{named, type_of}
+use Rattle.graph_model.specs.World.{names_node, type_of}
 use Rattle.graph_model.specs.Accepting.{passed_limit, type_refusal}
 use Rattle.world_laws.proofs.Order.{same_name-exact}
 use Rattle.graph_store.specs.declared.store.Store.TheInside.{Inside}
-use Rattle.graph_store.specs.Kept.{contents, IsStored}
-use Rattle.graph_store.specs.Typed.{kind_in}
+use Rattle.graph_store.specs.StoreInvariant.{contents, IsStored}
+use Rattle.graph_store.specs.TypeIndex.{kind_in}
 use Rattle.graph_store.specs.WithType.{with_type}
 use Rattle.graph_store.specs.Contents.{name_at}
 use Rattle.graph_store.proofs.AcceptNode.{name_at-insert}
@@ -65,7 +65,7 @@ module _ (s : Inside) (h : IsStored s) where
   -- a node that is not found has no type
   pub kind_missed : (node : List ℕ) → position (same_name node) s.nodes.names ≡ None → type_of (contents s).types node ≡ None
   kind_missed node e =
-      absent_of (type_of (contents s).types node) (right (named (contents s).accepted node) (is_some (type_of (contents s).types node)) (sym (h.contents_are.known_nodes node) ∙ none_found (same_name node) s.nodes.names e))
+      absent_of (type_of (contents s).types node) (right (names_node (contents s).accepted node) (is_some (type_of (contents s).types node)) (sym (h.contents_are.known_nodes node) ∙ none_found (same_name node) s.nodes.names e))
     where
       right : (a b : Bool) → (a || b) ≡ false → b ≡ false
       right true b f = absurd (true≢false f)
@@ -83,7 +83,7 @@ module _ (s : Inside) (h : IsStored s) where
 
   -- a node and the name of its type are known
   pub node_known : (node kind : List ℕ) → type_of (contents s).types node ≡ Some kind → list_any (same_name node) s.nodes.names ≡ true
-  node_known node kind e = h.contents_are.known_nodes node ∙ or_right (named (contents s).accepted node) (is_some (type_of (contents s).types node)) (ap is_some e)
+  node_known node kind e = h.contents_are.known_nodes node ∙ or_right (names_node (contents s).accepted node) (is_some (type_of (contents s).types node)) (ap is_some e)
 
   pub kind_known : (node kind : List ℕ) → type_of (contents s).types node ≡ Some kind → list_any (same_name kind) s.kinds.names ≡ true
   kind_known node kind e = h.contents_are.known_kinds kind ∙ type_name-there (contents s).types node kind e

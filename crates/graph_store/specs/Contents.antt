@@ -10,15 +10,15 @@ use Rattle.graph_model.specs.declared.events.Model.{Model}
 use Rattle.graph_model.specs.Interval.{Interval}
 use Rattle.graph_model.specs.Names.{same_name}
 use Rattle.graph_model.specs.Entity.{is_about, same_entity}
-use Rattle.graph_model.specs.World.{World, named, type_of, base}
+use Rattle.graph_model.specs.World.{World, names_node, type_of, base}
 use Rattle.graph_model.specs.Accepting.{kept_type, node_events, edge_events, layer_names, type_names}
 use Rattle.time_history.specs.declared.updates.Update.{Update}
 use Rattle.graph_store.specs.declared.pairs.Ends.{Ends}
 use Rattle.graph_store.specs.declared.edges.EdgeParts.{EdgeParts}
-use Rattle.graph_store.specs.Parts.{parts_at}
+use Rattle.graph_store.specs.EdgeParts.{parts_at}
 use Rattle.graph_store.specs.Keys.{type_in, key_name}
 use Rattle.graph_store.specs.Filed.{all_arrived, by_arrival}
-use Rattle.graph_store.specs.Told.{AreTold}
+use Rattle.graph_store.specs.Telling.{TellEvents}
 
 -- the model, the bounds, the accepted events in the order of their arrival, the types of nodes, rising by node, and what numbers name: nodes, layers, names of types, keys with the types that they keep, edges and pairs
 pub record Contents : Type 0 where
@@ -53,10 +53,10 @@ edge_entities nodes layers edges = map (λ (p : EdgeParts). Edge (edge_name node
 pub record AreContents (c : Contents) (node_updates edge_updates : List (List Update)) : Type 0 where
   -- the histories tell the accepted events
   pub arrived : by_arrival (all_arrived (key_name c.node_keys) (node_entities c.nodes) node_updates ++ all_arrived (key_name c.edge_keys) (edge_entities c.nodes c.layers c.edges) edge_updates) ≡ c.accepted
-  pub nodes_told : AreTold (key_name c.node_keys) (length c.node_keys) (node_entities c.nodes) node_updates c.accepted
-  pub edges_told : AreTold (key_name c.edge_keys) (length c.edge_keys) (edge_entities c.nodes c.layers c.edges) edge_updates c.accepted
+  pub nodes_told : TellEvents (key_name c.node_keys) (length c.node_keys) (node_entities c.nodes) node_updates c.accepted
+  pub edges_told : TellEvents (key_name c.edge_keys) (length c.edge_keys) (edge_entities c.nodes c.layers c.edges) edge_updates c.accepted
   -- numbers name what the accepted events and the types name, and nothing else
-  pub known_nodes : (name : List ℕ) → list_any (same_name name) c.nodes ≡ (named c.accepted name || is_some (type_of c.types name))
+  pub known_nodes : (name : List ℕ) → list_any (same_name name) c.nodes ≡ (names_node c.accepted name || is_some (type_of c.types name))
   pub known_layers : (name : List ℕ) → list_any (same_name name) c.layers ≡ list_any (same_name name) (layer_names c.accepted)
   pub known_kinds : (name : List ℕ) → list_any (same_name name) c.kinds ≡ list_any (same_name name) (type_names c.types)
   pub known_edges : (edge : EdgeName) → list_any (same_entity (Edge edge)) (edge_entities c.nodes c.layers c.edges) ≡ list_any (is_about (Edge edge)) c.accepted

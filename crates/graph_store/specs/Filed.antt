@@ -6,7 +6,7 @@ use Rattle.graph_model.specs.declared.events.Entity.{Entity}
 use Rattle.graph_model.specs.declared.events.Event.{Event}
 use Rattle.graph_model.specs.Rising.{in_order}
 use Rattle.time_history.specs.declared.updates.Update.{Update}
-use Rattle.time_history.specs.Told.{event_told}
+use Rattle.time_history.specs.Telling.{event_told}
 
 -- the events of an entity's history, each with the number of its arrival
 abbrev pub arrived : Entity → (ℕ → List ℕ) → List Update → List (ℕ × Event)

@@ -8,7 +8,7 @@ use Rattle.graph_model.specs.declared.properties.Value.TheVariants.{Int}
 use Rattle.graph_model.specs.declared.properties.ValueType.{ValueType}
 use Rattle.graph_model.specs.Names.{same_name}
 use Rattle.graph_model.specs.ValueKind.{value_type, same_value_type}
-use Rattle.time_history.specs.Told.{named}
+use Rattle.time_history.specs.Telling.{with_key_names}
 
 -- the type that a table has for a key
 abbrev pub type_in : List (List ℕ × ValueType) → List ℕ → Option ValueType
@@ -28,8 +28,8 @@ IsClash keys props clash = MatchOption clash (find (clashes keys) props ≡ None
     (λ r. (p : List ℕ × Value) × (find (clashes keys) props ≡ Some p) × (type_in keys p.0 ≡ Some r.0) × (value_type p.1 ≡ r.1))
 
 -- a key and its type
-abbrev pub typed : List ℕ × Value → List ℕ × ValueType
-typed p = (p.0, value_type p.1)
+abbrev pub key_with_type : List ℕ × Value → List ℕ × ValueType
+key_with_type p = (p.0, value_type p.1)
 
 -- a table with the key of a property, put last with the type of its value, unless it is there
 abbrev pub with_key : List (List ℕ × ValueType) → List ℕ × Value → List (List ℕ × ValueType)
@@ -41,7 +41,7 @@ with_keys keys props = fold with_key keys props
 
 -- values by the numbers of their keys, which are those of the properties
 pub record AreNumbered (keys : List (List ℕ × ValueType)) (props : List (List ℕ × Value)) (values : List (ℕ × Value)) : Type 0 where
-  pub names : named (key_name keys) values ≡ props
+  pub names : with_key_names (key_name keys) values ≡ props
   pub below : AllByRecursion (λ (p : ℕ × Value). p.0 < length keys) values
 
 -- a property for places past the end of a list

@@ -3,8 +3,8 @@ ghost use Rattle.std.specs.Prelude.{◌≡◌, ℕ, ◌+◌, ◌-◌, ◌^◌, �
 ghost use Rattle.std.specs.List.{AllByRecursion, IsDistinct, find, list_any};
 ghost use Rattle.indexmap.specs.IndexSet.{insert_key};
 ghost use Rattle.graph_store.specs.Ends.{same_ends, ends_at};
-ghost use Rattle.graph_store.specs.Parts.{is_in};
-ghost use Rattle.graph_store.specs.Paired.{pairs_from, pairs_to};
+ghost use Rattle.graph_store.specs.EdgeParts.{is_in};
+ghost use Rattle.graph_store.specs.PairIndex.{pairs_from, pairs_to};
 
 use crate::pairs::{Ends, PairTable};
 use graph_model::Memory;
@@ -23,7 +23,7 @@ pub struct EdgeParts {
 impl PartialEq for EdgeParts {
     ghost use Rattle.std.proofs.Common.{rules};
     ghost use Rattle.std.specs.Cmp.Rules.{comparing};
-    ghost use Rattle.graph_store.specs.Parts.{same_parts};
+    ghost use Rattle.graph_store.specs.EdgeParts.{same_parts};
 
     ghost eq = { same_parts };
 
@@ -35,7 +35,7 @@ impl PartialEq for EdgeParts {
 }
 
 impl EdgeParts {
-    ghost use Rattle.graph_store.specs.Parts.{ends_of};
+    ghost use Rattle.graph_store.specs.EdgeParts.{ends_of};
 
     /// The pair that the edge belongs to.
     pub fn ends(self) -> Ends
@@ -64,9 +64,9 @@ pub struct EdgeTable {
 
 impl Model for EdgeTable {
     ghost use Rattle.std.specs.Prelude.{min, ◌-◌, vec_len, vec_capacity};
-    ghost use Rattle.graph_store.specs.Linked.{Linked, AreLinked, edges_from, AreHeld};
+    ghost use Rattle.graph_store.specs.EdgeIndex.{EdgeIndex, IsEdgeIndex, edges_from, HavePairs};
 
-    ghost Value = { Linked };
+    ghost Value = { EdgeIndex };
 
     ghost view = { λ t. record {
       nodes = t.pairs.nodes;
@@ -76,7 +76,7 @@ impl Model for EdgeTable {
       spare_edges = min (min (min (vec_capacity t.pair_of - vec_len t.pair_of) (vec_capacity t.layer_of - vec_len t.layer_of)) t.pairs.spare_pairs) (min t.of_pair.spare_lists t.of_pair.spare_links);
     } };
 
-    ghost invariant = { λ t. AreHeld t.pairs.pairs t.pair_of.items t.layer_of.items × AreLinked (edges_from t.pairs.pairs t.pair_of.items t.layer_of.items) t.pairs t.of_pair.lists t.of_pair.links };
+    ghost invariant = { λ t. HavePairs t.pairs.pairs t.pair_of.items t.layer_of.items × IsEdgeIndex (edges_from t.pairs.pairs t.pair_of.items t.layer_of.items) t.pairs t.of_pair.lists t.of_pair.links };
 }
 
 /// The number of a pair, which is new or known.
@@ -121,8 +121,8 @@ fn first_in_layer(layers: &[u8], mut edges: NumberWalk<'_>, layer: u8) -> Option
 }
 
 impl EdgeTable {
-    ghost use Rattle.graph_store.specs.Parts.{same_parts, ends_of, parts_at};
-    ghost use Rattle.graph_store.specs.Linked.{edges_between};
+    ghost use Rattle.graph_store.specs.EdgeParts.{same_parts, ends_of, parts_at};
+    ghost use Rattle.graph_store.specs.EdgeIndex.{edges_between};
 
     /// No node and no edge. It takes no memory.
     pub fn new(alloc: Global) -> EdgeTable

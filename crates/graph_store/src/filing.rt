@@ -7,13 +7,13 @@ ghost use Rattle.graph_model.specs.Names.{same_name};
 ghost use Rattle.graph_model.specs.Searches.{digits};
 ghost use Rattle.time_history.specs.Kinds.{OfOneSort};
 ghost use Rattle.time_history.specs.Updates.{placed};
-ghost use Rattle.graph_store.specs.Told.{updates_of_number};
+ghost use Rattle.graph_store.specs.Telling.{updates_of_number};
 ghost use Rattle.graph_store.specs.Histories.{updates_in};
-ghost use Rattle.graph_store.specs.Parts.{parts_at};
+ghost use Rattle.graph_store.specs.EdgeParts.{parts_at};
 ghost use Rattle.graph_store.specs.Contents.{edge_entities};
 ghost use Rattle.graph_model.specs.Entity.{same_entity};
 ghost use Rattle.graph_model.specs.declared.events.Entity.TheVariants.{Edge as EdgeNamed};
-ghost use Rattle.graph_store.specs.Taken.{with_update, with_ends, with_end_histories, HasEdge, IsNext};
+ghost use Rattle.graph_store.specs.WithUpdate.{with_update, with_ends, with_end_histories, HasEdge, ArrivesNext};
 
 use crate::edges::EdgeTable;
 use crate::naming::{number_of_edge, number_parts};
@@ -91,7 +91,7 @@ pub fn file_node<L: Ledger>(
     requires lengths { vec_len histories.old ≡ length nodes.old.names }
     requires few { length (insert_key same_name nodes.old.names name) ≤ nodes.old.limit }
     requires fewer { length nodes.old.names < 2 ^ 32 - 1 }
-    requires next { (i : ℕ) → i < vec_len histories.old → IsNext update (updates_of_number (updates_in histories.old.items) i) }
+    requires next { (i : ℕ) → i < vec_len histories.old → ArrivesNext update (updates_of_number (updates_in histories.old.items) i) }
     requires early { update.arrival < 2 ^ 32 - 1 }
     ensures limit { nodes.new.limit ≡ nodes.old.limit }
     ensures edges { links.new.edges ≡ links.old.edges }
@@ -136,7 +136,7 @@ pub fn file_edge<L: Ledger>(
     requires within { (e : ℕ) → e < length links.old.edges → ((parts_at links.old.edges e).src < length nodes.old.names) × ((parts_at links.old.edges e).dst < length nodes.old.names) × ((parts_at links.old.edges e).layer < length layers.old.names) }
     requires lengths { vec_len edge_histories.old ≡ length links.old.edges }
     requires few_edges { length links.old.edges < 2 ^ 32 - 1 }
-    requires next { (i : ℕ) → i < vec_len edge_histories.old → IsNext update (updates_of_number (updates_in edge_histories.old.items) i) }
+    requires next { (i : ℕ) → i < vec_len edge_histories.old → ArrivesNext update (updates_of_number (updates_in edge_histories.old.items) i) }
     requires early { update.arrival < 2 ^ 32 - 1 }
     ensures limit { nodes.new.limit ≡ nodes.old.limit }
     ensures layer_limit { layers.new.limit ≡ layers.old.limit }

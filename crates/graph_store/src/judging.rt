@@ -5,8 +5,8 @@ ghost use Rattle.indexmap.specs.IndexSet.{insert_key};
 ghost use Rattle.graph_model.specs.Names.{same_name};
 ghost use Rattle.graph_model.specs.Entity.{props_of};
 ghost use Rattle.graph_model.specs.World.{allows};
-ghost use Rattle.graph_model.specs.Accepting.{all_counted};
-ghost use Rattle.graph_store.specs.Judged.{counted, is_above};
+ghost use Rattle.graph_model.specs.Accepting.{all_quantities};
+ghost use Rattle.graph_store.specs.Refusals.{quantity_of, is_above};
 
 use graph_model::{Event, Model, Name, ValueType, What};
 use name_intern::NameTable;
@@ -56,7 +56,7 @@ pub struct Totals {
 
 /// The first of which there are too many.
 pub fn first_above(totals: Totals) -> Option<Count>
-    ensures { option_map counted result ≡ find (is_above totals) all_counted }
+    ensures { option_map quantity_of result ≡ find (is_above totals) all_quantities }
 {
     if totals.events > 4194304 {
         return Some(Count::Events);

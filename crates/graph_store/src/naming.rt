@@ -5,9 +5,9 @@ ghost use Rattle.indexmap.specs.IndexSet.{insert_key};
 ghost use Rattle.graph_model.specs.Names.{same_name};
 ghost use Rattle.graph_model.specs.Entity.{same_entity};
 ghost use Rattle.graph_model.specs.declared.events.Entity.TheVariants.{Edge as EdgeNamed};
-ghost use Rattle.graph_store.specs.Parts.{parts_at};
+ghost use Rattle.graph_store.specs.EdgeParts.{parts_at};
 ghost use Rattle.graph_store.specs.Histories.{updates_in};
-ghost use Rattle.graph_store.specs.Taken.{with_history, with_ends, with_end_histories};
+ghost use Rattle.graph_store.specs.WithUpdate.{with_history, with_ends, with_end_histories};
 ghost use Rattle.graph_store.specs.Contents.{edge_name, edge_entities};
 
 use crate::edges::{EdgeParts, EdgeTable};

@@ -1,7 +1,7 @@
 //! Values, put in the order of the numbers of their keys.
 ghost use Rattle.std.specs.Prelude.{◌≡◌, OnOk, OnErr, IfOk, nat_lt};
 ghost use Rattle.std.specs.List.{position_or_len};
-ghost use Rattle.time_history.specs.KeyValues.{KeysRise};
+ghost use Rattle.time_history.specs.KeyValues.{KeyNumbersRise};
 ghost use Rattle.graph_store.specs.Numbered.{pairs_in, put_number};
 
 use graph_model::{Memory, Value};
@@ -52,7 +52,7 @@ pub fn put(items: &mut SmallVec<Numbered, 4>, item: Numbered) -> Result<(), Memo
 
 /// Values whose keys rise, as the values of an update.
 pub fn key_values(alloc: Global, numbered: SmallVec<Numbered, 4>) -> Result<KeyValues, Memory>
-    requires { KeysRise (pairs_in numbered.items) }
+    requires { KeyNumbersRise (pairs_in numbered.items) }
     ensures { IfOk result (λ values. values ≡ pairs_in numbered.items) }
 {
     let mut values = KeyValues::new(alloc);

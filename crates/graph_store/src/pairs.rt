@@ -1,7 +1,7 @@
 //! Pairs of nodes, numbered, and linked by their sources and by their destinations.
 ghost use Rattle.std.specs.Prelude.{◌≡◌, ℕ, ◌+◌, ◌-◌, ◌^◌, ◌<◌, ◌≤◌, List, [], ◌∷◌, ◌++◌, Some, is_some, false, position, length, slice_get, OnOk, IsOk};
 ghost use Rattle.std.specs.List.{IsDistinct, list_any};
-ghost use Rattle.graph_store.specs.Paired.{pairs_from, pairs_to};
+ghost use Rattle.graph_store.specs.PairIndex.{pairs_from, pairs_to};
 
 use graph_model::Memory;
 use indexmap::IndexSet;
@@ -42,9 +42,9 @@ pub struct PairTable {
 impl Model for PairTable {
     ghost use Rattle.std.specs.Prelude.{min, length};
     ghost use Rattle.indexmap.specs.IndexSet.{spare};
-    ghost use Rattle.graph_store.specs.Paired.{Paired, ArePaired};
+    ghost use Rattle.graph_store.specs.PairIndex.{PairIndex, IsPairIndex};
 
-    ghost Value = { Paired };
+    ghost Value = { PairIndex };
 
     ghost view = { λ t. record {
       nodes = length t.outward.lists;
@@ -53,7 +53,7 @@ impl Model for PairTable {
       spare_pairs = min (spare t.ends) (min t.outward.spare_links t.inward.spare_links);
     } };
 
-    ghost invariant = { λ t. ArePaired t.ends.keys t.outward.lists t.inward.lists };
+    ghost invariant = { λ t. IsPairIndex t.ends.keys t.outward.lists t.inward.lists };
 }
 
 impl PairTable {

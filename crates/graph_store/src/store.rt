@@ -46,7 +46,7 @@ impl std::marker::Model for Store {
 
     ghost Value = { Contents };
 
-    ghost use Rattle.graph_store.specs.Kept.{contents, IsStored};
+    ghost use Rattle.graph_store.specs.StoreInvariant.{contents, IsStored};
 
     ghost view = { contents };
 
@@ -56,25 +56,25 @@ impl std::marker::Model for Store {
 impl Store {
     ghost use Rattle.graph_model.specs.Entity.{same_entity, is_about};
     ghost use Rattle.graph_model.specs.Interval.{is_inside};
-    ghost use Rattle.graph_model.specs.World.{named, type_of, put_type, events_of, allows, IsLawful};
-    ghost use Rattle.graph_model.specs.Accepting.{Counted, all_counted, layer_names, key_names, type_names, node_events, edge_events, count_of, limit_of, mistyped, passed_limit, event_refusal, is_other_type, type_refusal};
+    ghost use Rattle.graph_model.specs.World.{names_node, type_of, put_type, events_of, allows, IsLawful};
+    ghost use Rattle.graph_model.specs.Accepting.{Quantity, all_quantities, layer_names, key_names, type_names, node_events, edge_events, count_of, limit_of, mistyped, passed_limit, event_refusal, is_other_type, type_refusal};
     ghost use Rattle.graph_model.specs.declared.events.Entity.TheVariants.{Node as NodeNamed, Edge as EdgeNamed};
-    ghost use Rattle.time_history.specs.Told.{events_told, Fits};
+    ghost use Rattle.time_history.specs.Telling.{events_told, Fits};
     ghost use Rattle.time_history.specs.Asked.{AreNamed};
     ghost use Rattle.time_history.specs.Spans.{AreWithin, IsAllowed, IsTaken};
-    ghost use Rattle.graph_store.specs.Histories.{whole_of};
+    ghost use Rattle.graph_store.specs.Histories.{span_of_all};
     ghost use Rattle.graph_store.specs.Ends.{same_ends, ends_at};
-    ghost use Rattle.graph_store.specs.Parts.{ends_of, parts_at};
+    ghost use Rattle.graph_store.specs.EdgeParts.{ends_of, parts_at};
     ghost use Rattle.indexmap.specs.IndexSet.{insert_key};
     ghost use Rattle.graph_model.specs.Searches.{digits};
-    ghost use Rattle.graph_store.specs.Accepted.{node_event, with_node_event, edge_event, with_edge_event, with_event, HasRoom};
+    ghost use Rattle.graph_store.specs.WithEvent.{node_event, with_node_event, edge_event, with_edge_event, with_event, HasRoom};
     ghost use Rattle.graph_store.specs.WithType.{with_type};
-    ghost use Rattle.graph_store.specs.Taken.{with_ends};
+    ghost use Rattle.graph_store.specs.WithUpdate.{with_ends};
     ghost use Rattle.time_history.specs.Kinds.{is_node, is_delete};
     ghost use Rattle.graph_store.specs.Keys.{key_name, with_keys};
-    ghost use Rattle.graph_store.specs.Paired.{pairs_from, pairs_to};
-    ghost use Rattle.graph_store.specs.Linked.{edges_between};
-    ghost use Rattle.graph_store.specs.Judged.{total_of, is_above, IsMistyped, IsRefusal, IsTypeRefusal};
+    ghost use Rattle.graph_store.specs.PairIndex.{pairs_from, pairs_to};
+    ghost use Rattle.graph_store.specs.EdgeIndex.{edges_between};
+    ghost use Rattle.graph_store.specs.Refusals.{total_of, is_above, IsMistyped, IsRefusal, IsTypeRefusal};
     ghost use Rattle.graph_store.specs.declared.judging.StoreRefusal.TheVariants.{Memory as MemoryWanting};
     ghost use Rattle.graph_store.specs.Contents.{name_at, edge_name, edge_entities, base_of};
     ghost use Rattle.graph_store.specs.Indexed.{IsIndexed};
@@ -128,7 +128,7 @@ impl Store {
     pub fn events(&self) -> u32
         ensures len { result ≡ length self.now.accepted }
         ensures lawful { IsLawful (base_of self.now) }
-        ensures limits { (counted : Counted) → count_of counted self.now.accepted self.now.types ≤ limit_of counted }
+        ensures limits { (counted : Quantity) → count_of counted self.now.accepted self.now.types ≤ limit_of counted }
     {
         let _indexed = self.nodes();
         let _kinds = self.kinds.len();
@@ -200,7 +200,7 @@ impl Store {
     /// The number of a node, if an accepted event or type has named it.
     pub fn node_of(&self, name: &Name) -> Option<NodeId>
         ensures place { option_map (λ n. n.0) result ≡ position (same_name name.now) self.now.nodes }
-        ensures known { is_some result ≡ (named self.now.accepted name.now || is_some (type_of self.now.types name.now)) }
+        ensures known { is_some result ≡ (names_node self.now.accepted name.now || is_some (type_of self.now.types name.now)) }
     {
         match self.nodes.find(name) {
             Some(node) => Some(NodeId(node)),
@@ -357,7 +357,7 @@ impl Store {
         ensures keys { AreNamed (key_name self.now.node_keys) (length self.now.node_keys) result.now.updates }
         ensures within { AreWithin self.now.bounds result.now.updates }
         ensures allowed { IsAllowed self.now.model result.now.updates }
-        ensures whole { IsTaken self.now.model self.now.bounds result.now.updates (whole_of result.now.updates) }
+        ensures whole { IsTaken self.now.model self.now.bounds result.now.updates (span_of_all result.now.updates) }
     {
         let _keys = self.node_keys.len();
         &self.node_histories[n.0 as usize]
@@ -371,7 +371,7 @@ impl Store {
         ensures keys { AreNamed (key_name self.now.edge_keys) (length self.now.edge_keys) result.now.updates }
         ensures within { AreWithin self.now.bounds result.now.updates }
         ensures allowed { IsAllowed self.now.model result.now.updates }
-        ensures whole { IsTaken self.now.model self.now.bounds result.now.updates (whole_of result.now.updates) }
+        ensures whole { IsTaken self.now.model self.now.bounds result.now.updates (span_of_all result.now.updates) }
     {
         let _keys = self.edge_keys.len();
         &self.edge_histories[e.0 as usize]
@@ -403,7 +403,7 @@ impl Store {
 
     /// How many events, nodes, layers, keys and names of types there would be with an event more.
     fn totals_with(&self, event: &Event) -> Totals
-        ensures { (counted : Counted) → total_of result counted ≡ count_of counted (self.now.accepted ++ event.now ∷ []) self.now.types }
+        ensures { (counted : Quantity) → total_of result counted ≡ count_of counted (self.now.accepted ++ event.now ∷ []) self.now.types }
     {
         let events = self.events + 1;
         let layers = self.layers.len();
@@ -668,10 +668,10 @@ impl Store {
 
     /// How many events, nodes, layers, keys and names of types there would be with a type more.
     fn totals_with_type(&self, node: &Name, kind: &Name) -> Totals
-        ensures totals { (counted : Counted) → total_of result counted ≡ count_of counted self.now.accepted (self.now.types ++ (node.now, kind.now) ∷ []) }
+        ensures totals { (counted : Quantity) → total_of result counted ≡ count_of counted self.now.accepted (self.now.types ++ (node.now, kind.now) ∷ []) }
         ensures nodes { result.nodes ≡ length (insert_key same_name self.now.nodes node.now) }
         ensures types { result.types ≡ length (insert_key same_name self.now.kinds kind.now) }
-        ensures again { type_of self.now.types node.now ≡ Some kind.now → find (is_above result) all_counted ≡ None }
+        ensures again { type_of self.now.types node.now ≡ Some kind.now → find (is_above result) all_quantities ≡ None }
     {
         let _node_limit = self.nodes.len();
         let _kind_limit = self.kinds.len();

@@ -4,14 +4,14 @@ ghost use Rattle.indexmap.specs.IndexSet.{insert_key};
 ghost use Rattle.graph_model.specs.declared.properties.Value.{Value as GraphValue};
 ghost use Rattle.graph_model.specs.Names.{same_name};
 ghost use Rattle.graph_model.specs.Searches.{digits};
-ghost use Rattle.graph_store.specs.Told.{updates_of_number};
+ghost use Rattle.graph_store.specs.Telling.{updates_of_number};
 ghost use Rattle.graph_store.specs.Histories.{updates_in};
 ghost use Rattle.graph_store.specs.Keys.{type_in, with_keys, prop_at};
 ghost use Rattle.graph_model.specs.Entity.{same_entity};
 ghost use Rattle.graph_model.specs.declared.events.Entity.TheVariants.{Edge as EdgeNamed};
-ghost use Rattle.graph_store.specs.Parts.{parts_at};
+ghost use Rattle.graph_store.specs.EdgeParts.{parts_at};
 ghost use Rattle.graph_store.specs.Contents.{edge_entities};
-ghost use Rattle.graph_store.specs.Taken.{update_of, with_ends, with_end_histories, HasEdge, IsNext, IsTaken};
+ghost use Rattle.graph_store.specs.WithUpdate.{update_of, with_ends, with_end_histories, HasEdge, ArrivesNext, TakeUpdate};
 
 use crate::edges::EdgeTable;
 use crate::filing::{file_edge, file_node};
@@ -65,14 +65,14 @@ fn file_numbered<L: Ledger>(
     requires lengths { vec_len histories.old ≡ length nodes.old.names }
     requires few { length (insert_key same_name nodes.old.names name) ≤ nodes.old.limit }
     requires fewer { length nodes.old.names < 2 ^ 32 - 1 }
-    requires next { (values : List (ℕ × GraphValue)) (i : ℕ) → i < vec_len histories.old → IsNext (update_of arrival values) (updates_of_number (updates_in histories.old.items) i) }
+    requires next { (values : List (ℕ × GraphValue)) (i : ℕ) → i < vec_len histories.old → ArrivesNext (update_of arrival values) (updates_of_number (updates_in histories.old.items) i) }
     requires early { arrival.number < 2 ^ 32 - 1 }
     ensures limit { nodes.new.limit ≡ nodes.old.limit }
     ensures edges { links.new.edges ≡ links.old.edges }
     ensures pairs { links.new.pairs ≡ links.old.pairs }
     ensures linked { links.new.nodes ≡ length nodes.new.names }
     ensures names { OnOk result (nodes.new.names ≡ insert_key same_name nodes.old.names name) }
-    ensures taken { OnOk result (IsTaken keys.now props.now arrival (position (same_name name) nodes.old.names) (updates_in histories.old.items) (updates_in histories.new.items)) }
+    ensures taken { OnOk result (TakeUpdate keys.now props.now arrival (position (same_name name) nodes.old.names) (updates_in histories.old.items) (updates_in histories.new.items)) }
     ensures err_names { OnErr result (nodes.new.names ≡ nodes.old.names) }
     ensures err_filed { OnErr result (updates_in histories.new.items ≡ updates_in histories.old.items) }
     ensures cost { steps.new ≤ steps.old + (digits arrival.number + 1) }
@@ -106,7 +106,7 @@ pub fn take_node<L: Ledger>(
     requires lengths { vec_len histories.old ≡ length nodes.old.names }
     requires few { length (insert_key same_name nodes.old.names name) ≤ nodes.old.limit }
     requires fewer { length nodes.old.names < 2 ^ 32 - 1 }
-    requires next { (values : List (ℕ × GraphValue)) (i : ℕ) → i < vec_len histories.old → IsNext (update_of arrival values) (updates_of_number (updates_in histories.old.items) i) }
+    requires next { (values : List (ℕ × GraphValue)) (i : ℕ) → i < vec_len histories.old → ArrivesNext (update_of arrival values) (updates_of_number (updates_in histories.old.items) i) }
     requires early { arrival.number < 2 ^ 32 - 1 }
     ensures limit { nodes.new.limit ≡ nodes.old.limit }
     ensures edges { links.new.edges ≡ links.old.edges }
@@ -114,7 +114,7 @@ pub fn take_node<L: Ledger>(
     ensures linked { links.new.nodes ≡ length nodes.new.names }
     ensures keys { OnOk result (keys.new ≡ with_keys keys.old props.now) }
     ensures names { OnOk result (nodes.new.names ≡ insert_key same_name nodes.old.names name) }
-    ensures taken { OnOk result (IsTaken (with_keys keys.old props.now) props.now arrival (position (same_name name) nodes.old.names) (updates_in histories.old.items) (updates_in histories.new.items)) }
+    ensures taken { OnOk result (TakeUpdate (with_keys keys.old props.now) props.now arrival (position (same_name name) nodes.old.names) (updates_in histories.old.items) (updates_in histories.new.items)) }
     ensures err_keys { OnErr result (keys.new ≡ keys.old) }
     ensures err_names { OnErr result (nodes.new.names ≡ nodes.old.names) }
     ensures err_filed { OnErr result (updates_in histories.new.items ≡ updates_in histories.old.items) }
@@ -155,7 +155,7 @@ fn file_numbered_edge<L: Ledger>(
     requires within { (e : ℕ) → e < length links.old.edges → ((parts_at links.old.edges e).src < length nodes.old.names) × ((parts_at links.old.edges e).dst < length nodes.old.names) × ((parts_at links.old.edges e).layer < length layers.old.names) }
     requires lengths { vec_len edge_histories.old ≡ length links.old.edges }
     requires few_edges { length links.old.edges < 2 ^ 32 - 1 }
-    requires next { (values : List (ℕ × GraphValue)) (i : ℕ) → i < vec_len edge_histories.old → IsNext (update_of arrival values) (updates_of_number (updates_in edge_histories.old.items) i) }
+    requires next { (values : List (ℕ × GraphValue)) (i : ℕ) → i < vec_len edge_histories.old → ArrivesNext (update_of arrival values) (updates_of_number (updates_in edge_histories.old.items) i) }
     requires early { arrival.number < 2 ^ 32 - 1 }
     ensures limit { nodes.new.limit ≡ nodes.old.limit }
     ensures layer_limit { layers.new.limit ≡ layers.old.limit }
@@ -164,7 +164,7 @@ fn file_numbered_edge<L: Ledger>(
     ensures layers { OnOk result (layers.new.names ≡ insert_key same_name layers.old.names edge.layer) }
     ensures nodes_filed { OnOk result (updates_in node_histories.new.items ≡ with_end_histories nodes.old.names edge (updates_in node_histories.old.items)) }
     ensures edges { OnOk result (HasEdge (position (same_entity (EdgeNamed edge)) (edge_entities nodes.old.names layers.old.names links.old.edges)) nodes.new.names layers.new.names edge links.old links.new) }
-    ensures taken { OnOk result (IsTaken keys.now props.now arrival (position (same_entity (EdgeNamed edge)) (edge_entities nodes.old.names layers.old.names links.old.edges)) (updates_in edge_histories.old.items) (updates_in edge_histories.new.items)) }
+    ensures taken { OnOk result (TakeUpdate keys.now props.now arrival (position (same_entity (EdgeNamed edge)) (edge_entities nodes.old.names layers.old.names links.old.edges)) (updates_in edge_histories.old.items) (updates_in edge_histories.new.items)) }
     ensures err_names { OnErr result (nodes.new.names ≡ nodes.old.names) }
     ensures err_layers { OnErr result (layers.new.names ≡ layers.old.names) }
     ensures err_edges { OnErr result (links.new.edges ≡ links.old.edges) }
@@ -211,7 +211,7 @@ pub fn take_edge<L: Ledger>(
     requires within { (e : ℕ) → e < length links.old.edges → ((parts_at links.old.edges e).src < length nodes.old.names) × ((parts_at links.old.edges e).dst < length nodes.old.names) × ((parts_at links.old.edges e).layer < length layers.old.names) }
     requires lengths { vec_len edge_histories.old ≡ length links.old.edges }
     requires few_edges { length links.old.edges < 2 ^ 32 - 1 }
-    requires next { (values : List (ℕ × GraphValue)) (i : ℕ) → i < vec_len edge_histories.old → IsNext (update_of arrival values) (updates_of_number (updates_in edge_histories.old.items) i) }
+    requires next { (values : List (ℕ × GraphValue)) (i : ℕ) → i < vec_len edge_histories.old → ArrivesNext (update_of arrival values) (updates_of_number (updates_in edge_histories.old.items) i) }
     requires early { arrival.number < 2 ^ 32 - 1 }
     ensures limit { nodes.new.limit ≡ nodes.old.limit }
     ensures layer_limit { layers.new.limit ≡ layers.old.limit }
@@ -220,7 +220,7 @@ pub fn take_edge<L: Ledger>(
     ensures layers { OnOk result (layers.new.names ≡ insert_key same_name layers.old.names edge.layer) }
     ensures nodes_filed { OnOk result (updates_in node_histories.new.items ≡ with_end_histories nodes.old.names edge (updates_in node_histories.old.items)) }
     ensures edges { OnOk result (HasEdge (position (same_entity (EdgeNamed edge)) (edge_entities nodes.old.names layers.old.names links.old.edges)) nodes.new.names layers.new.names edge links.old links.new) }
-    ensures taken { OnOk result (IsTaken (with_keys keys.old props.now) props.now arrival (position (same_entity (EdgeNamed edge)) (edge_entities nodes.old.names layers.old.names links.old.edges)) (updates_in edge_histories.old.items) (updates_in edge_histories.new.items)) }
+    ensures taken { OnOk result (TakeUpdate (with_keys keys.old props.now) props.now arrival (position (same_entity (EdgeNamed edge)) (edge_entities nodes.old.names layers.old.names links.old.edges)) (updates_in edge_histories.old.items) (updates_in edge_histories.new.items)) }
     ensures err_names { OnErr result (nodes.new.names ≡ nodes.old.names) }
     ensures err_layers { OnErr result (layers.new.names ≡ layers.old.names) }
     ensures err_edges { OnErr result (links.new.edges ≡ links.old.edges) }

@@ -1,6 +1,6 @@
 //! The types of nodes, by numbers.
 ghost use Rattle.std.specs.Prelude.{◌≡◌, ◌<◌, ◌≤◌, [], ◌∷◌, ◌++◌, None, OnOk};
-ghost use Rattle.graph_store.specs.Typed.{kind_in};
+ghost use Rattle.graph_store.specs.TypeIndex.{kind_in};
 
 use graph_model::Memory;
 use indexmap::IndexMap;
@@ -15,9 +15,9 @@ pub struct TypeTable {
 
 impl Model for TypeTable {
     ghost use Rattle.indexmap.specs.IndexMap.{spare};
-    ghost use Rattle.graph_store.specs.Typed.{Typed};
+    ghost use Rattle.graph_store.specs.TypeIndex.{TypeIndex};
 
-    ghost Value = { Typed };
+    ghost Value = { TypeIndex };
 
     ghost view = { λ t. record { numbers = t.kinds.entries; spare = spare t.kinds } };
 }

@@ -7,7 +7,7 @@ use Rattle.link_chain.specs.Buckets.{bucket_at, count_of, take_out, put_first}
 use Rattle.link_chain.specs.Indexes.{nowhere}
 use Rattle.link_chain.specs.FirstsAndPlaces.{first_at, place_at, IsSpot, IsRun, AreBuckets, with_after, unlinked_places, unlinked_firsts, linked_places, linked_firsts}
 use Rattle.link_chain.proofs.BucketLaws.{bucket_at-take}
-use Rattle.link_chain.proofs.BucketRuns.{count_front, count_append, take_out-none, take_out-front, count-take_out, member, run_same, last_of, last_stands, Parts, parts, IsPart, run_parts, first_part, run_without}
+use Rattle.link_chain.proofs.BucketRuns.{count_front, count_append, take_out-none, take_out-front, count-take_out, member, run_same, last_of, last_stands, Parts, parts, IsRunAround, run_parts, first_part, run_without}
 
 -- the items after one, where another now stands before them
 rest_run : (places ps : List Place) (b i p q : ℕ) (back : List ℕ) → length ps ≡ length places → IsRun places b i q back → ((z : ℕ) → count_of z back ≤ 1)
@@ -101,7 +101,7 @@ unlinked firsts places lists i b buckets lt here =
     let f = first_at firsts b in
     let pt : Parts i xs = parts i xs here in
     let w : IsRun places b nowhere f (pt.front ++ i ∷ pt.back) = subst (IsRun places b nowhere f) pt.whole (buckets.runs b lt) in
-    let part : IsPart places b nowhere i pt.front pt.back = run_parts places b nowhere f i pt.front pt.back w in
+    let part : IsRunAround places b nowhere i pt.front pt.back = run_parts places b nowhere f i pt.front pt.back w in
     let once : (z : ℕ) → count_of z pt.front + (if_eq i z + count_of z pt.back) ≤ 1 = λ z. at_most z i pt.front pt.back xs pt.whole (buckets.once b z) in
     let in_list : (z : ℕ) → 0 < count_of z (pt.front ++ i ∷ pt.back) → z < length places = λ z some. (member places b nowhere f z (pt.front ++ i ∷ pt.back) w some).0 in
     let front_in : (z : ℕ) → 0 < count_of z pt.front → z < length places = λ z some. in_list z (omega (arith, some, count_append z pt.front (i ∷ pt.back))) in

@@ -124,16 +124,16 @@ take_out-front i [] back f b = rw (eq-eqb i i refl) (take_out-none i back b)
 take_out-front i (x ∷ xs) back f b = grind (arith, take_out-front i xs back)
 
 -- what a run says of an item in it
-pub record IsPart (places : List Place) (b before i : ℕ) (front back : List ℕ) : Type 0 where
+pub record IsRunAround (places : List Place) (b before i : ℕ) (front back : List ℕ) : Type 0 where
   pub within : i < length places
   pub comes : (place_at places i).before ≡ last_of before front
   pub bucket : (place_at places i).bucket ≡ b
   pub rest : IsRun places b i (place_at places i).after back
 
-pub run_parts : (places : List Place) (b before l i : ℕ) (front back : List ℕ) → IsRun places b before l (front ++ i ∷ back) → IsPart places b before i front back
+pub run_parts : (places : List Place) (b before l i : ℕ) (front back : List ℕ) → IsRun places b before l (front ++ i ∷ back) → IsRunAround places b before i front back
 unfolding last_of
 run_parts places b before l i [] back w =
-    subst (λ (m : ℕ). IsPart places b before m [] back) (sym w.0.here) (record { within = w.0.within; comes = w.0.back; bucket = w.0.bucket; rest = w.1 })
+    subst (λ (m : ℕ). IsRunAround places b before m [] back) (sym w.0.here) (record { within = w.0.within; comes = w.0.back; bucket = w.0.bucket; rest = w.1 })
 run_parts places b before l i (x ∷ xs) back w =
     let r = run_parts places b l (place_at places l).after i xs back w.1 in
     record { within = r.within; comes = r.comes ∙ ap (λ (m : ℕ). last_of m xs) (sym w.0.here); bucket = r.bucket; rest = r.rest }

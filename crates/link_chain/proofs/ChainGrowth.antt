@@ -7,7 +7,7 @@ use Rattle.link_chain.specs.declared.linked_lists.Head.{Head}
 use Rattle.link_chain.specs.declared.linked_lists.Link.{Link}
 use Rattle.link_chain.specs.Chains.{list_at, times}
 use Rattle.link_chain.specs.Indexes.{nowhere}
-use Rattle.link_chain.specs.HeadsAndLinks.{head_at, link_at, IsStep, IsWalk, last_link, AreChains}
+use Rattle.link_chain.specs.HeadsAndLinks.{head_at, link_at, IsStep, IsChainFrom, last_link, AreChains}
 
 pub no_head : Head
 no_head = record { first = nowhere; last = nowhere }
@@ -53,21 +53,21 @@ added heads links lists chains = record {
 
 -- a walk is the same where its links are
 pub walk_same : (links ls : List Link) (l : ℕ) (xs : List (ℕ × ℕ)) → length links ≤ length ls
-    → ((i : ℕ) → i < length links → 0 < times i xs → link_at ls i ≡ link_at links i) → IsWalk links l xs → IsWalk ls l xs
+    → ((i : ℕ) → i < length links → 0 < times i xs → link_at ls i ≡ link_at links i) → IsChainFrom links l xs → IsChainFrom ls l xs
 walk_same links ls l [] le same w = w
 walk_same links ls l (p ∷ ps) le same w =
     let t : eqb p.0 l ≡ true = eq-eqb p.0 l (ap (λ q. q.0) w.0.here) in
     let e : link_at ls l ≡ link_at links l = same l w.0.within (rw t (omega arith)) in (
       subst (λ (k : Link). IsStep k (length ls) l p) (sym e) (record { here = w.0.here; within = omega (arith, le, w.0.within); rises = w.0.rises }),
-      subst (λ (m : ℕ). IsWalk ls m ps) (sym (ap (λ k. k.next) e))
+      subst (λ (m : ℕ). IsChainFrom ls m ps) (sym (ap (λ k. k.next) e))
           (walk_same links ls (link_at links l).next ps le (λ i lt some. same i lt (omega (arith, some))) w.1),
     )
 
-last_above : (links : List Link) (l d : ℕ) (p : ℕ × ℕ) (ps : List (ℕ × ℕ)) → IsWalk links l (p ∷ ps) → l ≤ last_link d (p ∷ ps)
+last_above : (links : List Link) (l d : ℕ) (p : ℕ × ℕ) (ps : List (ℕ × ℕ)) → IsChainFrom links l (p ∷ ps) → l ≤ last_link d (p ∷ ps)
 last_above links l d p [] w = omega (arith, ap (λ q. q.0) w.0.here)
 last_above links l d p (q ∷ qs) w = omega (arith, w.0.rises, last_above links (link_at links l).next p.0 q qs w.1)
 
-last_in : (links : List Link) (l d : ℕ) (p : ℕ × ℕ) (ps : List (ℕ × ℕ)) → IsWalk links l (p ∷ ps) → last_link d (p ∷ ps) < length links
+last_in : (links : List Link) (l d : ℕ) (p : ℕ × ℕ) (ps : List (ℕ × ℕ)) → IsChainFrom links l (p ∷ ps) → last_link d (p ∷ ps) < length links
 last_in links l d p [] w = omega (arith, ap (λ q. q.0) w.0.here, w.0.within)
 last_in links l d p (q ∷ qs) w = last_in links (link_at links l).next p.0 q qs w.1
 
@@ -75,30 +75,30 @@ last_stands : (d : ℕ) (p : ℕ × ℕ) (ps : List (ℕ × ℕ)) → 0 < times 
 last_stands d p [] = rw (eq-eqb p.0 p.0 refl) (omega arith)
 last_stands d p (q ∷ qs) = omega (arith, last_stands p.0 q qs)
 
-walk_end : (ls : List Link) (n item : ℕ) → link_at ls n ≡ record { item = item; next = nowhere } → n < length ls → n < nowhere → IsWalk ls n ((n, item) ∷ [])
+walk_end : (ls : List Link) (n item : ℕ) → link_at ls n ≡ record { item = item; next = nowhere } → n < length ls → n < nowhere → IsChainFrom ls n ((n, item) ∷ [])
 walk_end ls n item e lt few =
     (subst (λ (k : Link). IsStep k (length ls) n (n, item)) (sym e) (record { here = refl; within = lt; rises = few }), ap (λ k. k.next) e)
 
 pub walk_append : (links ls : List Link) (n t item : ℕ) → length ls ≡ length links + 1 → n ≡ length links → n < nowhere
     → ((i : ℕ) → i < length links → i ≢ t → link_at ls i ≡ link_at links i)
     → link_at ls t ≡ record { item = (link_at links t).item; next = n } → link_at ls n ≡ record { item = item; next = nowhere }
-    → (l d : ℕ) (p : ℕ × ℕ) (ps : List (ℕ × ℕ)) → IsWalk links l (p ∷ ps) → last_link d (p ∷ ps) ≡ t → IsWalk ls l (p ∷ (ps ++ (n, item) ∷ []))
+    → (l d : ℕ) (p : ℕ × ℕ) (ps : List (ℕ × ℕ)) → IsChainFrom links l (p ∷ ps) → last_link d (p ∷ ps) ≡ t → IsChainFrom ls l (p ∷ (ps ++ (n, item) ∷ []))
 walk_append links ls n t item len new few others at_t at_n l d p [] w last =
     let same : t ≡ l = sym last ∙ ap (λ q. q.0) w.0.here in
     let e : link_at ls l ≡ record { item = (link_at links l).item; next = n } = subst (λ (m : ℕ). link_at ls m ≡ record { item = (link_at links m).item; next = n }) same at_t in (
       subst (λ (k : Link). IsStep k (length ls) l p) (sym e) (record { here = w.0.here; within = omega (arith, len, w.0.within); rises = omega (arith, new, w.0.within) }),
-      subst (λ (m : ℕ). IsWalk ls m ((n, item) ∷ [])) (sym (ap (λ k. k.next) e)) (walk_end ls n item at_n (omega (arith, len, new)) few),
+      subst (λ (m : ℕ). IsChainFrom ls m ((n, item) ∷ [])) (sym (ap (λ k. k.next) e)) (walk_end ls n item at_n (omega (arith, len, new)) few),
     )
 walk_append links ls n t item len new few others at_t at_n l d p (q ∷ qs) w last =
     let ne : l ≢ t = λ same. absurd (omega (arith, w.0.rises, last_above links (link_at links l).next p.0 q qs w.1, last, same)) in
     let e : link_at ls l ≡ link_at links l = others l w.0.within ne in (
       subst (λ (k : Link). IsStep k (length ls) l p) (sym e) (record { here = w.0.here; within = omega (arith, len, w.0.within); rises = w.0.rises }),
-      subst (λ (m : ℕ). IsWalk ls m (q ∷ (qs ++ (n, item) ∷ []))) (sym (ap (λ k. k.next) e))
+      subst (λ (m : ℕ). IsChainFrom ls m (q ∷ (qs ++ (n, item) ∷ []))) (sym (ap (λ k. k.next) e))
           (walk_append links ls n t item len new few others at_t at_n (link_at links l).next p.0 q qs w.1 last),
     )
 
 -- no link is at or above the count of links
-none_above : (links : List Link) (l m : ℕ) (xs : List (ℕ × ℕ)) → IsWalk links l xs → length links ≤ m → times m xs ≡ 0
+none_above : (links : List Link) (l m : ℕ) (xs : List (ℕ × ℕ)) → IsChainFrom links l xs → length links ≤ m → times m xs ≡ 0
 none_above links l m [] w le = refl
 none_above links l m (p ∷ ps) w le =
     let e : eqb p.0 m ≡ false = ne_eqb p.0 m (λ same. absurd (omega (arith, same, ap (λ q. q.0) w.0.here, w.0.within, le))) in
@@ -134,8 +134,8 @@ once_split l n false e before after old new set_is new_is once none = omega arit
 pub appended : (heads hs : List Head) (links ls : List Link) (lists : List (List (ℕ × ℕ))) (h n item : ℕ) → AreChains heads links lists
     → h < length heads → n ≡ length links → n < nowhere → length hs ≡ length heads → length ls ≡ length links + 1
     → (head_at hs h).last ≡ n → ((k : ℕ) → k ≢ h → head_at hs k ≡ head_at heads k)
-    → IsWalk ls (head_at hs h).first (list_at lists h ++ (n, item) ∷ [])
-    → ((k : ℕ) → k < length heads → k ≢ h → IsWalk ls (head_at heads k).first (list_at lists k))
+    → IsChainFrom ls (head_at hs h).first (list_at lists h ++ (n, item) ∷ [])
+    → ((k : ℕ) → k < length heads → k ≢ h → IsChainFrom ls (head_at heads k).first (list_at lists k))
     → AreChains hs ls (set lists h (list_at lists h ++ (n, item) ∷ []))
 appended heads hs links ls lists h n item chains lt new few same_heads len last same here others =
     let xs = list_at lists h in
@@ -148,7 +148,7 @@ appended heads hs links ls lists h n item chains lt new few same_heads len last 
           (sum_by-set (times l) lists h (xs ++ (n, item) ∷ []) [] mt) (times_push l n item xs) (chains.once l)
           (λ e. none_sum l lists (λ k kt. none_above links (head_at heads k).first l (list_at lists k) (chains.walks k (omega (arith, kt, chains.same))) (omega (arith, e, new))));
       walks = λ k kt. elim (cases_eq k h) [
-        | inl e ↦ subst (λ (m : ℕ). IsWalk ls (head_at hs m).first (list_at (set lists h (xs ++ (n, item) ∷ [])) m)) (sym e)
+        | inl e ↦ subst (λ (m : ℕ). IsChainFrom ls (head_at hs m).first (list_at (set lists h (xs ++ (n, item) ∷ [])) m)) (sym e)
             (rw (get_or-set_same lists h (xs ++ (n, item) ∷ []) [] mt) here)
         | inr ne ↦ rw (same k ne, get_or-set_other lists h k (xs ++ (n, item) ∷ []) [] ne) (others k (omega (arith, kt, same_heads)) ne)
       ];
@@ -159,7 +159,7 @@ appended heads hs links ls lists h n item chains lt new few same_heads len last 
       ];
     }
 
-empty_from_last : (links : List Link) (l : ℕ) (xs : List (ℕ × ℕ)) → length links ≤ nowhere → IsWalk links l xs → last_link nowhere xs ≡ nowhere → xs ≡ []
+empty_from_last : (links : List Link) (l : ℕ) (xs : List (ℕ × ℕ)) → length links ≤ nowhere → IsChainFrom links l xs → last_link nowhere xs ≡ nowhere → xs ≡ []
 empty_from_last links l [] few w e = refl
 empty_from_last links l (p ∷ ps) few w e = absurd (omega (arith, last_in links l nowhere p ps w, e, few))
 
@@ -175,8 +175,8 @@ appended_first heads links lists h item chains lt few none =
     let at : head_at (set heads h new) h ≡ new = get_or-set_same heads h new (record { first = nowhere; last = nowhere }) lt in
     appended heads (set heads h new) links (links ++ z ∷ []) lists h (length links) item chains lt refl few (length-set heads h new) (length_push links z)
     (ap (λ k. k.last) at) (λ k ne. get_or-set_other heads h k new (record { first = nowhere; last = nowhere }) ne)
-    (subst (λ (m : ℕ). IsWalk (links ++ z ∷ []) m (list_at lists h ++ (length links, item) ∷ [])) (sym (ap (λ k. k.first) at))
-    (subst (λ (xs : List (ℕ × ℕ)). IsWalk (links ++ z ∷ []) (length links) (xs ++ (length links, item) ∷ [])) (sym empty)
+    (subst (λ (m : ℕ). IsChainFrom (links ++ z ∷ []) m (list_at lists h ++ (length links, item) ∷ [])) (sym (ap (λ k. k.first) at))
+    (subst (λ (xs : List (ℕ × ℕ)). IsChainFrom (links ++ z ∷ []) (length links) (xs ++ (length links, item) ∷ [])) (sym empty)
     (walk_end (links ++ z ∷ []) (length links) item (get_or_push links z (record { item = 0; next = nowhere }) (length links) refl) (omega (arith, length_push links z)) few)))
     (λ k kt ne. walk_same links (links ++ z ∷ []) (head_at heads k).first (list_at lists k) (omega (arith, length_push links z))
     (λ i it some. get_or_append_left links (z ∷ []) (record { item = 0; next = nowhere }) i it) (chains.walks k kt))
@@ -186,7 +186,7 @@ pub last_place : (heads : List Head) (links : List Link) (lists : List (List (�
     → h < length heads → (head_at heads h).last ≢ nowhere → (head_at heads h).last < length links
 last_place heads links lists h chains lt ne = some_last links (head_at heads h).first (list_at lists h) (head_at heads h).last (chains.walks h lt) (chains.ends h lt) ne
   where
-    some_last : (links : List Link) (l : ℕ) (xs : List (ℕ × ℕ)) (t : ℕ) → IsWalk links l xs → t ≡ last_link nowhere xs → t ≢ nowhere → t < length links
+    some_last : (links : List Link) (l : ℕ) (xs : List (ℕ × ℕ)) (t : ℕ) → IsChainFrom links l xs → t ≡ last_link nowhere xs → t ≢ nowhere → t < length links
     some_last links l [] t w e ne = absurd (ne e)
     some_last links l (p ∷ ps) t w e ne = omega (arith, last_in links l nowhere p ps w, e)
 
@@ -218,7 +218,7 @@ appended_last heads links lists h item chains lt few ne =
     get_or-set_other more t n y none (λ e. absurd (omega (arith, e, tt'))) ∙ get_or_push links z none n refl in
     appended heads (set heads h new) links ls lists h n item chains lt refl few (length-set heads h new) len
     (ap (λ k. k.last) at) (λ k ne'. get_or-set_other heads h k new (record { first = nowhere; last = nowhere }) ne')
-    (subst (λ (m : ℕ). IsWalk ls m (list_at lists h ++ (n, item) ∷ [])) (sym (ap (λ k. k.first) at))
+    (subst (λ (m : ℕ). IsChainFrom ls m (list_at lists h ++ (n, item) ∷ [])) (sym (ap (λ k. k.first) at))
     (own links ls n t item len few kept at_t at_n (head_at heads h).first (list_at lists h) (chains.walks h lt) (sym (chains.ends h lt)) ne))
     (λ k kt ne'. walk_same links ls (head_at heads k).first (list_at lists k) (omega (arith, len))
     (λ i it some. kept i it (λ e. absurd (omega (
@@ -232,7 +232,7 @@ appended_last heads links lists h item chains lt few ne =
     own : (links ls : List Link) (n t item : ℕ) → length ls ≡ length links + 1 → length links < nowhere
         → ((i : ℕ) → i < length links → i ≢ t → link_at ls i ≡ link_at links i)
         → link_at ls t ≡ record { item = (link_at links t).item; next = length links } → link_at ls (length links) ≡ record { item = item; next = nowhere }
-        → (l : ℕ) (xs : List (ℕ × ℕ)) → IsWalk links l xs → last_link nowhere xs ≡ t → t ≢ nowhere → IsWalk ls l (xs ++ (length links, item) ∷ [])
+        → (l : ℕ) (xs : List (ℕ × ℕ)) → IsChainFrom links l xs → last_link nowhere xs ≡ t → t ≢ nowhere → IsChainFrom ls l (xs ++ (length links, item) ∷ [])
     own links ls n t item len few kept at_t at_n l [] w e ne = absurd (ne (sym e))
     own links ls n t item len few kept at_t at_n l (p ∷ ps) w e ne = walk_append links ls (length links) t item len refl few kept at_t at_n l nowhere p ps w e
 

@@ -7,16 +7,16 @@ use Rattle.link_chain.specs.declared.linked_lists.Head.{Head}
 use Rattle.link_chain.specs.declared.linked_lists.Link.{Link}
 use Rattle.link_chain.specs.Chains.{list_at, rest, from_link, first_link, times, IsLink}
 use Rattle.link_chain.specs.Indexes.{nowhere}
-use Rattle.link_chain.specs.HeadsAndLinks.{head_at, link_at, walk, lists_of, IsWalk, AreChains}
+use Rattle.link_chain.specs.HeadsAndLinks.{head_at, link_at, walk, lists_of, IsChainFrom, AreChains}
 
 -- two walks from one link are one
-pub walk_one : (links : List Link) (l : ℕ) (xs ys : List (ℕ × ℕ)) → length links ≤ nowhere → IsWalk links l xs → IsWalk links l ys → xs ≡ ys
+pub walk_one : (links : List Link) (l : ℕ) (xs ys : List (ℕ × ℕ)) → length links ≤ nowhere → IsChainFrom links l xs → IsChainFrom links l ys → xs ≡ ys
 walk_one links l [] [] few v w = refl
 walk_one links l [] (q ∷ qs) few v w = absurd (omega (arith, v, w.0.within))
 walk_one links l (p ∷ ps) [] few v w = absurd (omega (arith, v.0.within, w))
 walk_one links l (p ∷ ps) (q ∷ qs) few v w = let a = v.0.here in let b = w.0.here in let ih = walk_one links (link_at links l).next ps qs few v.1 w.1 in cc (a, b, ih)
 
-pub walk_is : (links : List Link) (n l : ℕ) (xs : List (ℕ × ℕ)) → length links ≤ nowhere → length xs ≤ n → IsWalk links l xs → walk links n l ≡ xs
+pub walk_is : (links : List Link) (n l : ℕ) (xs : List (ℕ × ℕ)) → length links ≤ nowhere → length xs ≤ n → IsChainFrom links l xs → walk links n l ≡ xs
 walk_is links zero l [] few le w = refl
 walk_is links zero l (p ∷ ps) few le w = absurd (omega arith)
 walk_is links (suc n) l [] few le w = let e : ltb l (length links) ≡ false = le-ltb l (length links) (omega (arith, w)) in rw e refl
@@ -35,12 +35,12 @@ lists_are heads links lists chains =
     ∙ walk_is links (length links) (head_at heads h).first (list_at lists h) chains.few
     (omega (arith, chains.count, get_or-le-sum_by length lists h [] (omega (arith, chains.same)))) (chains.walks h within))
 
-rest_split : (links : List Link) (l f : ℕ) (p : ℕ × ℕ) (ps : List (ℕ × ℕ)) (t : Bool) → eqb p.0 l ≡ t → p.0 ≡ f → IsWalk links f (p ∷ ps)
-    → (0 < times l ps → IsWalk links l (rest l ps)) → 0 < cond t 1 0 + times l ps → IsWalk links l (cond t (p ∷ ps) (rest l ps))
-rest_split links l f p ps true e same w ih some = subst (λ m. IsWalk links m (p ∷ ps)) (sym same ∙ eqb-true p.0 l e) w
+rest_split : (links : List Link) (l f : ℕ) (p : ℕ × ℕ) (ps : List (ℕ × ℕ)) (t : Bool) → eqb p.0 l ≡ t → p.0 ≡ f → IsChainFrom links f (p ∷ ps)
+    → (0 < times l ps → IsChainFrom links l (rest l ps)) → 0 < cond t 1 0 + times l ps → IsChainFrom links l (cond t (p ∷ ps) (rest l ps))
+rest_split links l f p ps true e same w ih some = subst (λ m. IsChainFrom links m (p ∷ ps)) (sym same ∙ eqb-true p.0 l e) w
 rest_split links l f p ps false e same w ih some = ih (omega arith)
 
-pub rest_walk : (links : List Link) (l f : ℕ) (xs : List (ℕ × ℕ)) → IsWalk links f xs → 0 < times l xs → IsWalk links l (rest l xs)
+pub rest_walk : (links : List Link) (l f : ℕ) (xs : List (ℕ × ℕ)) → IsChainFrom links f xs → 0 < times l xs → IsChainFrom links l (rest l xs)
 rest_walk links l f [] w some = absurd (omega arith)
 rest_walk links l f (p ∷ ps) w some = rest_split links l f p ps (eqb p.0 l) refl (ap (λ q. q.0) w.0.here) w (rest_walk links l (link_at links f).next ps w.1) some
 
@@ -88,7 +88,7 @@ pub record IsStarted (links : List Link) (f : ℕ) (xs : List (ℕ × ℕ)) : Ty
   pub first : Some f ≡ first_link xs
   pub whole : rest f xs ≡ xs
 
-pub started : (links : List Link) (f : ℕ) (xs : List (ℕ × ℕ)) → IsWalk links f xs → f ≢ nowhere → IsStarted links f xs
+pub started : (links : List Link) (f : ℕ) (xs : List (ℕ × ℕ)) → IsChainFrom links f xs → f ≢ nowhere → IsStarted links f xs
 started links f [] w ne = absurd (ne w)
 started links f (p ∷ ps) w ne =
     let e : eqb p.0 f ≡ true = eq-eqb p.0 f (ap (λ q. q.0) w.0.here) in
@@ -103,12 +103,12 @@ pub record IsFound (links : List Link) (f : ℕ) (lists : List (List (ℕ × ℕ
 pub first_found : (heads : List Head) (links : List Link) (lists : List (List (ℕ × ℕ))) (h f : ℕ) → AreChains heads links lists
     → f ≡ (head_at heads h).first → h < length lists → f ≢ nowhere → IsFound links f lists (list_at lists h)
 first_found heads links lists h f chains e lt ne =
-    let w : IsWalk links f (list_at lists h) = subst (λ l. IsWalk links l (list_at lists h)) (sym e) (chains.walks h (omega (arith, chains.same))) in
+    let w : IsChainFrom links f (list_at lists h) = subst (λ l. IsChainFrom links l (list_at lists h)) (sym e) (chains.walks h (omega (arith, chains.same))) in
     let s = started links f (list_at lists h) w ne in
     let a : from_link f lists ≡ list_at lists h = from_at f lists h lt (chains.once f) s.stands ∙ s.whole in
     record { walk = a; exists = rw a s.some; first = s.first }
 
-no_walk : (links : List Link) (f : ℕ) (xs : List (ℕ × ℕ)) → length links ≤ nowhere → IsWalk links f xs → f ≡ nowhere → [] ≡ xs
+no_walk : (links : List Link) (f : ℕ) (xs : List (ℕ × ℕ)) → length links ≤ nowhere → IsChainFrom links f xs → f ≡ nowhere → [] ≡ xs
 no_walk links f [] few w e = refl
 no_walk links f (p ∷ ps) few w e = absurd (omega (arith, w.0.within))
 
@@ -119,7 +119,7 @@ first_none heads links lists h f chains e lt none =
 
 -- what is read from a link is a walk from it
 pub from_walk : (heads : List Head) (links : List Link) (lists : List (List (ℕ × ℕ))) (l : ℕ) → AreChains heads links lists
-    → 0 < length (from_link l lists) → IsWalk links l (from_link l lists)
+    → 0 < length (from_link l lists) → IsChainFrom links l (from_link l lists)
 from_walk heads links lists l chains some =
     let found = from_in l lists some in
     rw (from_at l lists found.0 found.1 (chains.once l) found.2)
@@ -129,9 +129,9 @@ from_walk heads links lists l chains some =
 pub record IsThere (links : List Link) (l : ℕ) (xs : List (ℕ × ℕ)) : Type 0 where
   pub within : l < length links
   pub pair : xs ≡ (l, (link_at links l).item) ∷ drop 1 xs
-  pub after : IsWalk links (link_at links l).next (drop 1 xs)
+  pub after : IsChainFrom links (link_at links l).next (drop 1 xs)
 
-there_walk : (links : List Link) (l : ℕ) (xs : List (ℕ × ℕ)) → 0 < length xs → IsWalk links l xs → IsThere links l xs
+there_walk : (links : List Link) (l : ℕ) (xs : List (ℕ × ℕ)) → 0 < length xs → IsChainFrom links l xs → IsThere links l xs
 there_walk links l [] some w = absurd (omega arith)
 there_walk links l (p ∷ ps) some w = record { within = w.0.within; pair = ap (λ q. q ∷ ps) w.0.here; after = w.1 }
 
@@ -149,13 +149,13 @@ pub next_found : (heads : List Head) (links : List Link) (lists : List (List (�
 next_found heads links lists l f chains some e ne =
     let found = from_in l lists some in
     let t = there heads links lists l chains some in
-    let w : IsWalk links f (drop 1 (from_link l lists)) = subst (λ m. IsWalk links m (drop 1 (from_link l lists))) (sym e) t.after in
+    let w : IsChainFrom links f (drop 1 (from_link l lists)) = subst (λ m. IsChainFrom links m (drop 1 (from_link l lists))) (sym e) t.after in
     let s = started links f (drop 1 (from_link l lists)) w ne in
     let at = from_at l lists found.0 found.1 (chains.once l) found.2 in
     let stands : 0 < times f (list_at lists found.0) =
     omega (arith, s.stands, times_drop f (from_link l lists), ap (times f) at, times_rest f l (list_at lists found.0)) in
     let there' = from_at f lists found.0 found.1 (chains.once f) stands in
-    let v : IsWalk links f (from_link f lists) =
+    let v : IsChainFrom links f (from_link f lists) =
     rw there' (rest_walk links f (head_at heads found.0).first (list_at lists found.0) (chains.walks found.0 (omega (arith, found.1, chains.same))) stands) in
     let a = walk_one links f (from_link f lists) (drop 1 (from_link l lists)) chains.few v w in
     record { walk = a; exists = rw a s.some; first = s.first }

@@ -30,9 +30,9 @@ pub record IsStep (link : Link) (count l : ℕ) (p : ℕ × ℕ) : Type 0 where
   pub rises : l < link.next
 
 -- the pairs from a link on
-abbrev pub IsWalk : List Link → ℕ → List (ℕ × ℕ) → Type 0
-IsWalk links l [] = l ≡ nowhere
-IsWalk links l (p ∷ ps) = IsStep (link_at links l) (length links) l p × IsWalk links (link_at links l).next ps
+abbrev pub IsChainFrom : List Link → ℕ → List (ℕ × ℕ) → Type 0
+IsChainFrom links l [] = l ≡ nowhere
+IsChainFrom links l (p ∷ ps) = IsStep (link_at links l) (length links) l p × IsChainFrom links (link_at links l).next ps
 
 -- the last link of a list, where `l` is the one before it
 abbrev pub last_link : ℕ → List (ℕ × ℕ) → ℕ
@@ -45,5 +45,5 @@ pub record AreChains (heads : List Head) (links : List Link) (lists : List (List
   pub same : length lists ≡ length heads
   pub count : sum_by length lists ≡ length links
   pub once : (l : ℕ) → sum_by (times l) lists ≤ 1
-  pub walks : (h : ℕ) → h < length heads → IsWalk links (head_at heads h).first (list_at lists h)
+  pub walks : (h : ℕ) → h < length heads → IsChainFrom links (head_at heads h).first (list_at lists h)
   pub ends : (h : ℕ) → h < length heads → (head_at heads h).last ≡ last_link nowhere (list_at lists h)

@@ -1,9 +1,1 @@
-pub mod Spelled
-pub mod Sorting
-pub mod ShownOnes
-pub mod Placing
-pub mod SpanPlaces
-pub mod NamedTypes
-pub mod LiveProps
-pub mod BorrowedProps
-pub mod PlacedEvents
+pub mod TakenInTurn

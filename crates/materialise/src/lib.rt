@@ -1,14 +1,10 @@
-//! What a view shows, listed.
+//! The events and types of a view, copied as lists, and stores made of such lists.
 #![tactic(auto)]
 
-mod borrowed;
-mod listing;
-mod moments;
-mod types;
-mod whole;
+mod event_list;
+mod type_list;
+mod world_store;
 
-pub use borrowed::{BorrowedEvent, Property, borrowed_event};
-pub use listing::{EventPlace, Listed, Shown, Subject, list_places};
-pub use moments::{Moment, Moments, edge_moments, node_moments};
-pub use types::{TypedNode, list_typed_nodes};
-pub use whole::{WholeList, list_whole};
+pub use event_list::{list_world, listed_event};
+pub use type_list::list_types;
+pub use world_store::into_store;

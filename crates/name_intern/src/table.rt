@@ -2,7 +2,7 @@
 ghost use Rattle.std.specs.Prelude.{◌≡◌, ◌<◌, ◌≤◌, ◌+◌, ◌↔◌, [], ◌∷◌, ◌++◌, Some, None, length, take, slice_get, OnOk, OnErr, IfOk, IsSome, IsOk, IsErrOf};
 ghost use Rattle.std.specs.List.{IsDistinct};
 ghost use Rattle.graph_model.specs.Names.{same_name};
-ghost use Rattle.name_intern.specs.Interned.{place_of};
+ghost use Rattle.name_intern.specs.NameIndex.{place_of};
 
 use graph_model::{Memory, Name};
 use indexmap::IndexSet;
@@ -21,9 +21,9 @@ pub struct NameTable {
 impl Model for NameTable {
     ghost use Rattle.std.specs.Prelude.{◌≤◌, ◌<◌, ◌^◌};
     ghost use Rattle.indexmap.specs.IndexSet.{index_set_len, spare};
-    ghost use Rattle.name_intern.specs.Interned.{Interned};
+    ghost use Rattle.name_intern.specs.NameIndex.{NameIndex};
 
-    ghost Value = { Interned };
+    ghost Value = { NameIndex };
 
     ghost view = { λ t. record { limit = t.limit; names = t.names.keys; spare = spare t.names } };
 

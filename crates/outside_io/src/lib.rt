@@ -6,19 +6,19 @@
 //! named file is not there.
 #![tactic(auto)]
 
+mod all_bytes;
 mod call_list;
 mod file_list;
 mod in_memory;
 mod real_files;
 mod traits;
-mod whole;
 
+pub use all_bytes::{ReadFault, read_all, write_all};
 pub use call_list::Calls;
 pub use file_list::{FileItem, Files};
 pub use in_memory::{MemoryInputs, MemorySink};
 pub use real_files::{FileInputs, StreamSink};
 pub use traits::{Failed, Inputs, Output, Sink};
-pub use whole::{ReadFault, read_all, write_all};
 
 /// Want of memory: the one answer that no clause ties to a cause.
 pub type Memory = std::alloc::AllocError;

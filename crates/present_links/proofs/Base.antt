@@ -14,7 +14,7 @@ use Rattle.graph_model.specs.declared.events.Model.TheVariants.{Event as Instant
 use Rattle.graph_model.specs.Names.{same_name}
 use Rattle.graph_model.specs.Entity.{adds, deletes, edge_cmp, entities, is_about, is_addition, same_edge, same_entity, subject}
 use Rattle.graph_model.specs.World.{World, IsLawful, allows, arrange, event_cmp, events_of}
-use Rattle.graph_model.specs.Presence.{edge_part, edge_present, edges, is_present_at, node_present}
+use Rattle.graph_model.specs.Presence.{edge_of_entity, edge_present, edges, is_present_at, node_present}
 use Rattle.world_laws.proofs.Filters.{each_weaker}
 use Rattle.world_laws.proofs.Lawful.{each_passes}
 use Rattle.world_laws.proofs.Order.{edge_exact, same_edge-exact, same_edge-refl}
@@ -25,7 +25,7 @@ use Rattle.world_laws.proofs.RisingFixed.{any_in_order}
 use Rattle.graph_store.specs.declared.pairs.Ends.{Ends}
 use Rattle.graph_store.specs.declared.edges.EdgeParts.{EdgeParts}
 use Rattle.graph_store.specs.Ends.{same_ends}
-use Rattle.graph_store.specs.Parts.{ends_of}
+use Rattle.graph_store.specs.EdgeParts.{ends_of}
 use Rattle.graph_store.specs.Contents.{Contents, base_of, edge_name, name_at}
 use Rattle.graph_store.specs.Indexed.{IsIndexed}
 use Rattle.graph_store.proofs.EdgeNames.{each_from}
@@ -82,10 +82,10 @@ module _ (c : Contents) (model : c.model ≡ Instants) (lawful : IsLawful (base_
 end_listed : (w : World) (node : List ℕ) → list_any (is_present_at w node) (entities w.events) ≡ list_any (λ (e : EdgeName). same_name e.src node || same_name e.dst node) (edges w)
 unfolding option_passes
 end_listed w node =
-    any_same (is_present_at w node) (λ e. option_passes (λ m. edge_present w m && (same_name m.src node || same_name m.dst node)) (edge_part e)) by (entities w.events)
-    ∙ (sym (any_filter_map (λ m. edge_present w m && (same_name m.src node || same_name m.dst node)) edge_part (entities w.events))
-    ∙ (sym (any_filter (edge_present w) (λ m. same_name m.src node || same_name m.dst node) (filter_map edge_part (entities w.events)))
-    ∙ sym (any_rising edge_cmp (λ m. same_name m.src node || same_name m.dst node) (λ x y e. ap (λ (m : EdgeName). same_name m.src node || same_name m.dst node) (edge_exact x y e)) (filter (edge_present w) (filter_map edge_part (entities w.events))))))
+    any_same (is_present_at w node) (λ e. option_passes (λ m. edge_present w m && (same_name m.src node || same_name m.dst node)) (edge_of_entity e)) by (entities w.events)
+    ∙ (sym (any_filter_map (λ m. edge_present w m && (same_name m.src node || same_name m.dst node)) edge_of_entity (entities w.events))
+    ∙ (sym (any_filter (edge_present w) (λ m. same_name m.src node || same_name m.dst node) (filter_map edge_of_entity (entities w.events)))
+    ∙ sym (any_rising edge_cmp (λ m. same_name m.src node || same_name m.dst node) (λ x y e. ap (λ (m : EdgeName). same_name m.src node || same_name m.dst node) (edge_exact x y e)) (filter (edge_present w) (filter_map edge_of_entity (entities w.events))))))
   where
     and_swapped : (a b : Bool) → (a && b) ≡ (b && a)
     and_swapped true true = refl
@@ -93,7 +93,7 @@ end_listed w node =
     and_swapped false true = refl
     and_swapped false false = refl
 
-    by : (e : Entity) → is_present_at w node e ≡ option_passes (λ m. edge_present w m && (same_name m.src node || same_name m.dst node)) (edge_part e)
+    by : (e : Entity) → is_present_at w node e ≡ option_passes (λ m. edge_present w m && (same_name m.src node || same_name m.dst node)) (edge_of_entity e)
     by (Node name) = refl
     by (Edge edge) = and_swapped (same_name edge.src node || same_name edge.dst node) (edge_present w edge)
 

@@ -15,11 +15,11 @@ use Rattle.world_laws.proofs.Present.{some_passes}
 use Rattle.graph_store.specs.declared.pairs.Ends.{Ends}
 use Rattle.graph_store.specs.declared.edges.EdgeParts.{EdgeParts}
 use Rattle.graph_store.specs.Ends.{same_ends}
-use Rattle.graph_store.specs.Parts.{ends_of}
+use Rattle.graph_store.specs.EdgeParts.{ends_of}
 use Rattle.graph_store.specs.Contents.{Contents}
 use Rattle.graph_store.proofs.LinkLaws.{same_ends-equal, same_ends-own}
 use Rattle.graph_store.proofs.Listed.{list_any-place}
-use Rattle.view_trait.specs.Covered.{Covers, edges_on}
+use Rattle.view_trait.specs.Coverage.{Covers, edges_on}
 use Rattle.view_trait.specs.Meaning.{IsShown}
 use Rattle.view_trait.specs.Numbered.{is_listed}
 use Rattle.view_trait.specs.declared.rosters.Roster.{Roster}

@@ -25,7 +25,7 @@ use Rattle.graph_store.specs.Ends.{same_ends}
 use Rattle.graph_store.specs.Contents.{name_at}
 use Rattle.graph_store.proofs.Listed.{one_place, list_any-place}
 use Rattle.graph_store.proofs.JudgeLaws.{rises_distinct}
-use Rattle.present_links.specs.Links.{HasLinks, links_from, links_to, links_to_alone, leads_back, names_in, names_out}
+use Rattle.present_links.specs.Links.{HasLinks, links_from, links_to, links_to_alone, leads_back, names_linked_from, names_linked_to}
 use Rattle.present_links.proofs.Numbers.{any_each, any_map, any_one, distinct_filter, distinct_map}
 
 -- the names of distinct nodes are the same where their numbers are
@@ -53,10 +53,10 @@ module _ (w : World) (names : List (List ℕ)) (links : List Ends) (h : HasLinks
 
   -- the other ends of links, by their names
   outs : List (List ℕ)
-  outs = names_out names links n
+  outs = names_linked_to names links n
 
   ins : List (List ℕ)
-  ins = names_in names links n
+  ins = names_linked_from names links n
 
   alone : List (List ℕ)
   alone = map (λ (p : Ends). name_at names p.src) (links_to_alone links n)
@@ -201,15 +201,15 @@ module _ (w : World) (names : List (List ℕ)) (links : List Ends) (h : HasLinks
       rising_fixed name_cmp name_total name_exact (neighbours w d node) (rising name_cmp others) (neighbours_rise w d node) (Rises-rising name_cmp name_total others)
       (λ b. neighbours_has w d node b ∙ (sym (has b) ∙ sym (any_rising name_cmp (same_name b) (λ x y e. ap (same_name b) (name_exact x y e)) others)))
 
-  pub names_outward : neighbours w Outward (name_at names n) ≡ rising name_cmp (names_out names links n)
+  pub names_outward : neighbours w Outward (name_at names n) ≡ rising name_cmp (names_linked_to names links n)
   unfolding outs node
   names_outward = fixed Outward outs outs_has
 
-  pub names_inward : neighbours w Inward (name_at names n) ≡ rising name_cmp (names_in names links n)
+  pub names_inward : neighbours w Inward (name_at names n) ≡ rising name_cmp (names_linked_from names links n)
   unfolding ins node
   names_inward = fixed Inward ins ins_has
 
-  pub names_both : neighbours w Both (name_at names n) ≡ rising name_cmp (names_out names links n ++ names_in names links n)
+  pub names_both : neighbours w Both (name_at names n) ≡ rising name_cmp (names_linked_to names links n ++ names_linked_from names links n)
   unfolding outs ins node
   names_both = fixed Both (outs ++ ins) (λ b. list_any-append (same_name b) outs ins ∙ (λ i. outs_has b i || ins_has b i))
 

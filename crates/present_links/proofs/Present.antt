@@ -25,11 +25,11 @@ use Rattle.world_laws.proofs.Present.{some_passes}
 use Rattle.world_laws.proofs.RisingItems.{Rises-rising, any_rising}
 use Rattle.graph_store.specs.declared.pairs.Ends.{Ends}
 use Rattle.graph_store.specs.Contents.{Contents, name_at}
-use Rattle.view_trait.specs.Covered.{Covers, nodes_on}
+use Rattle.view_trait.specs.Coverage.{Covers, nodes_on}
 use Rattle.view_trait.specs.Meaning.{IsShown, node_at}
 use Rattle.view_trait.specs.Numbered.{is_listed}
 use Rattle.view_trait.specs.declared.rosters.Roster.{Roster}
-use Rattle.present_links.specs.declared.node_rows.Named.{Named}
+use Rattle.present_links.specs.declared.node_rows.NamedNode.{NamedNode}
 use Rattle.present_links.specs.Links.{IsNamed, has_own, is_end, is_present_number, rising_links}
 use Rattle.present_links.proofs.Base.{present_by_links}
 use Rattle.present_links.proofs.Keyed.{any_counted}
@@ -194,21 +194,21 @@ own_more p ns i n below here first before after is more =
     ∙ ap (λ l. first ++ l) (ap (λ m. filter p (take i ns) ++ filter p (m ∷ [])) (sym (get_or_from_slice_get ns i n 0 here)) ∙ sym (filter_more p ns i 0 below))))
 
 -- a named node more
-pub nodes_more : (numbers : List ℕ) (i : ℕ) → i < length numbers → (xs ys : List Named) (x : Named) → ys ≡ xs ++ x ∷ [] → x.node ≡ get_or numbers i 0 → map (λ (y : Named). y.node) xs ≡ take i numbers → map (λ (y : Named). y.node) ys ≡ take (i + 1) numbers
+pub nodes_more : (numbers : List ℕ) (i : ℕ) → i < length numbers → (xs ys : List NamedNode) (x : NamedNode) → ys ≡ xs ++ x ∷ [] → x.node ≡ get_or numbers i 0 → map (λ (y : NamedNode). y.node) xs ≡ take i numbers → map (λ (y : NamedNode). y.node) ys ≡ take (i + 1) numbers
 nodes_more numbers i below xs ys x is same before =
-    ap (map (λ (y : Named). y.node)) is
-    ∙ (map-append (λ (y : Named). y.node) xs (x ∷ [])
+    ap (map (λ (y : NamedNode). y.node)) is
+    ∙ (map-append (λ (y : NamedNode). y.node) xs (x ∷ [])
     ∙ ((λ k. before k ++ same k ∷ []) ∙ sym (take_more numbers i 0 below)))
 
 -- ---- nodes with their names
 
 -- the names of named nodes are those of their numbers
-pub named_names : (c : Contents) (xs : List Named) → All (IsNamed c) xs → map (name_at c.nodes) (map (λ (x : Named). x.node) xs) ≡ map (λ (x : Named). x.name.now) xs
+pub named_names : (c : Contents) (xs : List NamedNode) → All (IsNamed c) xs → map (name_at c.nodes) (map (λ (x : NamedNode). x.node) xs) ≡ map (λ (x : NamedNode). x.name.now) xs
 named_names c [] h = refl
 named_names c (x ∷ xs) h = let here = h 0 x (omega arith) in let rest = named_names c xs (λ k d lt. h (suc k) d (omega (arith, lt))) in λ i. here.name i ∷ rest i
 
 -- and the store has these
-pub named_within : (c : Contents) (xs : List Named) → All (IsNamed c) xs → AllByRecursion (λ n. n < length c.nodes) (map (λ (x : Named). x.node) xs)
+pub named_within : (c : Contents) (xs : List NamedNode) → All (IsNamed c) xs → AllByRecursion (λ n. n < length c.nodes) (map (λ (x : NamedNode). x.node) xs)
 named_within c [] h = tt
 named_within c (x ∷ xs) h = ((h 0 x (omega arith)).within, named_within c xs (λ k d lt. h (suc k) d (omega (arith, lt))))
 

@@ -13,7 +13,7 @@ use Rattle.world_laws.proofs.Present.{some_passes}
 use Rattle.graph_store.specs.declared.pairs.Ends.{Ends}
 use Rattle.graph_store.specs.declared.edges.EdgeParts.{EdgeParts}
 use Rattle.graph_store.specs.Ends.{same_ends}
-use Rattle.graph_store.specs.Parts.{ends_of, parts_at}
+use Rattle.graph_store.specs.EdgeParts.{ends_of, parts_at}
 use Rattle.graph_store.specs.Places.{places_from}
 use Rattle.graph_store.specs.Contents.{Contents, edge_name, name_at}
 use Rattle.graph_store.specs.Indexed.{IsIndexed}

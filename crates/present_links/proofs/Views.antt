@@ -10,7 +10,7 @@ use Rattle.graph_model.specs.Presence.{edge_present, node_present}
 use Rattle.world_laws.proofs.Order.{same_name-refl}
 use Rattle.world_laws.proofs.Nodes.{node_words}
 use Rattle.world_laws.proofs.Present.{present_from_contact}
-use Rattle.graph_store.specs.Parts.{parts_at}
+use Rattle.graph_store.specs.EdgeParts.{parts_at}
 use Rattle.graph_store.specs.Contents.{Contents}
 use Rattle.graph_store.proofs.Listed.{list_any-place}
 use Rattle.view_trait.specs.Meaning.{IsShown, knows}

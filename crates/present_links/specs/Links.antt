@@ -12,12 +12,12 @@ use Rattle.graph_model.specs.World.{World}
 use Rattle.graph_model.specs.Presence.{edge_present, edges, node_present}
 use Rattle.graph_store.specs.declared.pairs.Ends.{Ends}
 use Rattle.graph_store.specs.Ends.{same_ends}
-use Rattle.graph_store.specs.Linked.{edges_between}
-use Rattle.graph_store.specs.Parts.{ends_of, parts_at}
+use Rattle.graph_store.specs.EdgeIndex.{edges_between}
+use Rattle.graph_store.specs.EdgeParts.{ends_of, parts_at}
 use Rattle.graph_store.specs.Contents.{Contents, edge_name, name_at}
 use Rattle.view_trait.specs.Meaning.{node_at}
 use Rattle.present_links.specs.declared.link_list.Link.{Link}
-use Rattle.present_links.specs.declared.node_rows.Named.{Named}
+use Rattle.present_links.specs.declared.node_rows.NamedNode.{NamedNode}
 
 -- the links that begin at a node, and those that end there
 abbrev pub links_from : List Ends → ℕ → List Ends
@@ -115,13 +115,13 @@ abbrev pub is_present_number : Contents → World → ℕ → Bool
 is_present_number c w n = nat_lt n (length c.nodes) && node_present w (name_at c.nodes n)
 
 -- a node that has this name among those of the contents
-pub record IsNamed (c : Contents) (x : Named) : Type 0 where
+pub record IsNamed (c : Contents) (x : NamedNode) : Type 0 where
   pub within : x.node < length c.nodes
   pub name : name_at c.nodes x.node ≡ x.name.now
 
 -- the names of the nodes to which links lead from a node, and of those from which they lead to it
-abbrev pub names_out : List (List ℕ) → List Ends → ℕ → List (List ℕ)
-names_out nodes links n = map (λ (p : Ends). name_at nodes p.dst) (links_from links n)
+abbrev pub names_linked_to : List (List ℕ) → List Ends → ℕ → List (List ℕ)
+names_linked_to nodes links n = map (λ (p : Ends). name_at nodes p.dst) (links_from links n)
 
-abbrev pub names_in : List (List ℕ) → List Ends → ℕ → List (List ℕ)
-names_in nodes links n = map (λ (p : Ends). name_at nodes p.src) (links_to links n)
+abbrev pub names_linked_from : List (List ℕ) → List Ends → ℕ → List (List ℕ)
+names_linked_from nodes links n = map (λ (p : Ends). name_at nodes p.src) (links_to links n)

@@ -11,7 +11,7 @@ ghost use Rattle.graph_store.specs.Indexed.{IsIndexed};
 ghost use Rattle.graph_store.specs.declared.pairs.Ends.{Ends};
 ghost use Rattle.view_trait.specs.Meaning.{IsShown};
 ghost use Rattle.present_links.specs.Links.{HasLinks, ShowsEdges, links_of, rising_links, shown_links};
-ghost use Rattle.present_links.specs.Links.{links_from, links_to, links_to_alone, names_in, names_out};
+ghost use Rattle.present_links.specs.Links.{links_from, links_to, links_to_alone, names_linked_from, names_linked_to};
 
 /// Where a world shows some of a store's edges, the pairs with an edge that is shown are its links.
 pub fn shown_pairs_are_links()
@@ -36,14 +36,14 @@ pub fn pairs_are_links()
 pub fn neighbours_are_at_the_ends_of_links()
     ensures outward { (w : World) (nodes : List (List ℕ)) (links : List Ends)
         → HasLinks w nodes links → (n : ℕ) → n < length nodes
-        → neighbours w Outward (name_at nodes n) ≡ rising name_cmp (names_out nodes links n) }
+        → neighbours w Outward (name_at nodes n) ≡ rising name_cmp (names_linked_to nodes links n) }
     ensures inward { (w : World) (nodes : List (List ℕ)) (links : List Ends)
         → HasLinks w nodes links → (n : ℕ) → n < length nodes
-        → neighbours w Inward (name_at nodes n) ≡ rising name_cmp (names_in nodes links n) }
+        → neighbours w Inward (name_at nodes n) ≡ rising name_cmp (names_linked_from nodes links n) }
     ensures both { (w : World) (nodes : List (List ℕ)) (links : List Ends)
         → HasLinks w nodes links → (n : ℕ) → n < length nodes
         → neighbours w Both (name_at nodes n)
-        ≡ rising name_cmp (names_out nodes links n ++ names_in nodes links n) }
+        ≡ rising name_cmp (names_linked_to nodes links n ++ names_linked_from nodes links n) }
 {}
 
 /// A node has as many neighbours as links, each way; both ways it has as many as links from it, and

@@ -1,8 +1,8 @@
 //! The links that a view shows.
 ghost use Rattle.std.specs.Prelude.{◌≡◌, ◌≤◌, ◌*◌, ◌++◌, [], ◌∷◌, length, IfOk, OnOk, if◌then◌else◌};
 ghost use Rattle.graph_model.specs.declared.events.Model.TheVariants.{Event as Instants};
-ghost use Rattle.view_trait.specs.Covered.{Covers, edge_count};
-ghost use Rattle.view_trait.specs.Meaning.{IsWithin};
+ghost use Rattle.view_trait.specs.Coverage.{Covers, edge_count_on};
+ghost use Rattle.view_trait.specs.Meaning.{StepsWithin};
 ghost use Rattle.present_links.specs.Links.{edge_ends, ends_in, has_edge, rising_links};
 
 use crate::link_list::{Link, Links};
@@ -25,7 +25,7 @@ fn push_shown<V: View, L: Ledger>(
         OnOk result (ends_in links.new.items ≡ ends_in links.old.items ++ more) }
     ensures cost { let among = length (V.contents view.now).accepted in
         (V.world view.now).model ≡ Instants
-        → IsWithin steps.old steps.new (V.searches view.now).edges among }
+        → StepsWithin steps.old steps.new (V.searches view.now).edges among }
 {
     let store = view.store();
     if e.0 >= store.edges() {
@@ -54,12 +54,12 @@ pub fn links<V: View, L: Ledger>(
     ensures links { IfOk result (λ links. links ≡ rising_links (V.contents view.now) (V.world view.now)) }
     ensures few { IfOk result (λ links. length links ≤ length (V.contents view.now).pairs) }
     ensures cost { let among = length (V.contents view.now).accepted in
-        let searches = edge_count (V.contents view.now) roster.entry * (V.searches view.now).edges in
-        (V.world view.now).model ≡ Instants → IsWithin steps.old steps.new searches among }
+        let searches = edge_count_on (V.contents view.now) roster.entry * (V.searches view.now).edges in
+        (V.world view.now).model ≡ Instants → StepsWithin steps.old steps.new searches among }
 {
     let store = view.store();
     let mut links = Vec::new(alloc);
-    for i in 0..roster.edge_count(store) {
+    for i in 0..roster.edge_count_on(store) {
         push_shown(&mut links, view, roster.edge(store, i), steps)?;
     }
     Ok(Links::from_vec(links))

@@ -5,8 +5,8 @@ ghost use Rattle.std.specs.Ordering.{nat_cmp};
 ghost use Rattle.graph_model.specs.Presence.{nodes};
 ghost use Rattle.graph_model.specs.Rising.{Rises};
 ghost use Rattle.graph_store.specs.Contents.{name_at};
-ghost use Rattle.view_trait.specs.Covered.{Covers, node_count};
-ghost use Rattle.view_trait.specs.Meaning.{IsWithin};
+ghost use Rattle.view_trait.specs.Coverage.{Covers, node_count_on};
+ghost use Rattle.view_trait.specs.Meaning.{StepsWithin};
 ghost use Rattle.view_trait.specs.Numbered.{is_listed};
 ghost use Rattle.present_links.specs.Links.{IsNamed, has_own, is_end, is_present_number, rising_links};
 
@@ -73,7 +73,7 @@ fn push_own<V: View, L: Ledger>(
     ensures numbers { let own = has_own (V.contents view.now) (V.world view.now) in
         OnOk result (numbers.new.items ≡ numbers.old.items ++ filter own (n.0 ∷ [])) }
     ensures cost { let among = length (V.contents view.now).accepted in
-        IsWithin steps.old steps.new (V.searches view.now).nodes among }
+        StepsWithin steps.old steps.new (V.searches view.now).nodes among }
 {
     if n.0 >= view.store().nodes() {
         return Ok(());
@@ -101,12 +101,12 @@ fn present_numbers<V: View, L: Ledger>(
     ensures present { let present = is_present_number (V.contents view.now) (V.world view.now) in
         IfOk result (λ numbers. (n : ℕ) → is_listed numbers.items n ≡ present n) }
     ensures cost { let among = length (V.contents view.now).accepted in
-        let searches = node_count (V.contents view.now) roster.entry * (V.searches view.now).nodes in
-        IsWithin steps.old steps.new searches among }
+        let searches = node_count_on (V.contents view.now) roster.entry * (V.searches view.now).nodes in
+        StepsWithin steps.old steps.new searches among }
 {
     let store = view.store();
     let mut numbers = link_nodes(alloc, links)?;
-    for i in 0..roster.node_count(store) {
+    for i in 0..roster.node_count_on(store) {
         push_own(&mut numbers, view, roster.node(store, i), steps)?;
     }
     numbers.sort_unstable();
@@ -116,7 +116,7 @@ fn present_numbers<V: View, L: Ledger>(
 
 /// A node with its name, which the store keeps.
 #[derive(Clone, Copy)]
-pub struct Named<'s> {
+pub struct NamedNode<'s> {
     pub name: &'s str,
     pub node: u32,
 }
@@ -126,7 +126,7 @@ fn with_names<'s>(
     alloc: Global,
     store: &'s Store,
     numbers: &[u32],
-) -> Result<Vec<Named<'s>>, Memory>
+) -> Result<Vec<NamedNode<'s>>, Memory>
     requires { All (λ n. n < length store.now.nodes) numbers.now }
     ensures numbers { IfOk result (λ named. map (λ x. x.node) named.items ≡ numbers.now) }
     ensures names { IfOk result (λ named. All (IsNamed store.now) named.items) }
@@ -134,13 +134,13 @@ fn with_names<'s>(
     let mut named = Vec::with_capacity(alloc, numbers.len())?;
     for n in numbers {
         let name = store.node_name(NodeId(*n)).as_str();
-        named.push(Named { name, node: *n })?;
+        named.push(NamedNode { name, node: *n })?;
     }
     Ok(named)
 }
 
 /// The numbers of nodes, in their order.
-fn rows_of(alloc: Global, named: &[Named<'_>]) -> Result<NodeRows, Memory>
+fn rows_of(alloc: Global, named: &[NamedNode<'_>]) -> Result<NodeRows, Memory>
     ensures { IfOk result (λ rows. rows ≡ map (λ x. x.node) named.now) }
 {
     let mut nodes = Vec::with_capacity(alloc, named.len())?;
@@ -167,8 +167,8 @@ pub fn present_nodes<V: View, L: Ledger>(
         IfOk result (λ rows. map (name_at c.nodes) rows ≡ nodes (V.world view.now)) }
     ensures known { IfOk result (λ rows. All (λ n. n < length (V.contents view.now).nodes) rows) }
     ensures cost { let among = length (V.contents view.now).accepted in
-        let searches = node_count (V.contents view.now) roster.entry * (V.searches view.now).nodes in
-        IsWithin steps.old steps.new searches among }
+        let searches = node_count_on (V.contents view.now) roster.entry * (V.searches view.now).nodes in
+        StepsWithin steps.old steps.new searches among }
 {
     let numbers = present_numbers(alloc, view, links, roster, steps)?;
     let mut named = with_names(alloc, view.store(), numbers.as_slice())?;

@@ -19,7 +19,7 @@ use Rattle.graph_model.specs.World.{World}
 use Rattle.graph_store.specs.Contents.{Contents, base_of}
 use Rattle.view_trait.specs.declared.ready_ops.ReadyOp.{ReadyOp}
 use Rattle.view_trait.specs.Ready.{ready_apply}
-use Rattle.view_answers.specs.Parts.{AddsPart}
+use Rattle.view_answers.specs.WorldPart.{AddsPart}
 use Rattle.view_answers.specs.Plain.{is_plain}
 use Rattle.query_answers.specs.Blocks.{AddsAnswer}
 use Rattle.query_answers.specs.Refusing.{is_answered}

@@ -8,7 +8,7 @@ use Rattle.graph_model.specs.declared.events.Model.TheVariants.{Event as Instant
 use Rattle.graph_model.specs.declared.queries.Ask.{Ask}
 use Rattle.graph_model.specs.declared.queries.Ask.TheVariants.{Nodes, Edges, Degree, NodeValue, EdgeValue, EdgeAlive}
 use Rattle.graph_model.specs.declared.queries.Query.{Query}
-use Rattle.graph_model.specs.Searches.{Searches, ViewKind, digits, kind_of, searches}
+use Rattle.graph_model.specs.Searches.{Searches, ViewKind, digits, kind_of_view, searches}
 use Rattle.graph_model.specs.World.{World}
 use Rattle.graph_store.specs.Contents.{Contents, base_of}
 use Rattle.view_trait.specs.declared.ready_ops.ReadyOp.{ReadyOp}
@@ -54,17 +54,17 @@ paid-steps c w s Edges old new paid counted = list-steps old new (length c.edges
 paid-steps c w s _ old new paid counted = cc
 
 -- and those of a query are those of its question, about the world of its views
-pub seen-steps : (c shown : Contents) (ops given : List ReadyOp) (query : Query) (old new : ℕ) → shown ≡ c → given ≡ ops → map ready_kind ops ≡ map kind_of query.views → IsShown shown (base_of shown)
+pub seen-steps : (c shown : Contents) (ops given : List ReadyOp) (query : Query) (old new : ℕ) → shown ≡ c → given ≡ ops → map ready_kind ops ≡ map kind_of_view query.views → IsShown shown (base_of shown)
     → IsPaid shown (ready_apply shown given (base_of shown)) (searches (map ready_kind given)) query.ask old new
     → IsTrue (is_counted_ask c.model query.ask) → new ≤ old + query_steps (size_of c) query
 seen-steps c shown ops given query old new same listed kinds drawn paid counted =
     let w = ready_apply shown given (base_of shown) in
     let after : IsShown shown w = IsShown-after shown given (base_of shown) drawn in
     let model : w.model ≡ c.model = after.model ∙ ap (λ (x : Contents). x.model) same in
-    let kinds_are : map ready_kind given ≡ map kind_of query.views = ap (map ready_kind) listed ∙ kinds in
+    let kinds_are : map ready_kind given ≡ map kind_of_view query.views = ap (map ready_kind) listed ∙ kinds in
     let cost = paid-steps shown w (searches (map ready_kind given)) query.ask old new paid (subst (λ m. IsTrue (is_counted_ask m query.ask)) (sym model) counted) in
-    let priced : new ≤ old + ask_steps (searches (map kind_of query.views)) (size_of shown) query.ask = subst (λ (ks : List ViewKind). new ≤ old + ask_steps (searches ks) (size_of shown) query.ask) kinds_are cost in
-    subst (λ (x : Contents). new ≤ old + ask_steps (searches (map kind_of query.views)) (size_of x) query.ask) same priced
+    let priced : new ≤ old + ask_steps (searches (map kind_of_view query.views)) (size_of shown) query.ask = subst (λ (ks : List ViewKind). new ≤ old + ask_steps (searches ks) (size_of shown) query.ask) kinds_are cost in
+    subst (λ (x : Contents). new ≤ old + ask_steps (searches (map kind_of_view query.views)) (size_of x) query.ask) same priced
 
 -- a query that is counted asks a question that is
 pub query_steps-asked : (model : Model) (size : GraphSize) (query : Query) (old new : ℕ) → (IsTrue (is_counted_ask model query.ask) → new ≤ old + query_steps size query)

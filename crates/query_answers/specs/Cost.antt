@@ -6,7 +6,7 @@ use Rattle.graph_model.specs.declared.events.Model.TheVariants.{Event as Instant
 use Rattle.graph_model.specs.declared.queries.Ask.{Ask}
 use Rattle.graph_model.specs.declared.queries.Ask.TheVariants.{Nodes, Edges, Degree, NodeValue, EdgeValue, EdgeAlive}
 use Rattle.graph_model.specs.declared.queries.Query.{Query}
-use Rattle.graph_model.specs.Searches.{Searches, digits, kind_of, list_searches, searches}
+use Rattle.graph_model.specs.Searches.{Searches, digits, kind_of_view, list_searches, searches}
 use Rattle.graph_store.specs.Contents.{Contents}
 use Rattle.view_trait.specs.Meaning.{knows}
 use Rattle.view_answers.specs.Costs.{known_searches}
@@ -51,4 +51,4 @@ ask_steps s size ask = (list_searches s size.nodes size.edges ask + known_search
 
 -- the readings of a query at the most, each of its views with its own searches
 abbrev pub query_steps : GraphSize → Query → ℕ
-query_steps size query = ask_steps (searches (map kind_of query.views)) size query.ask
+query_steps size query = ask_steps (searches (map kind_of_view query.views)) size query.ask

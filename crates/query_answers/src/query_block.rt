@@ -4,7 +4,7 @@ ghost use Rattle.std.specs.List.{list_all};
 ghost use Rattle.graph_model.specs.Range.{op_in_range, query_in_range};
 ghost use Rattle.graph_model.specs.Stack.{apply};
 ghost use Rattle.graph_store.specs.Contents.{base_of};
-ghost use Rattle.view_answers.specs.Parts.{AddsPart};
+ghost use Rattle.view_answers.specs.WorldPart.{AddsPart};
 ghost use Rattle.view_answers.specs.Plain.{is_plain};
 ghost use Rattle.query_answers.specs.Blocks.{AddsAnswer};
 ghost use Rattle.query_answers.specs.Cost.{is_counted_ask, is_counted_query, query_steps, size_of};

@@ -8,7 +8,7 @@ use Rattle.std.proofs.lemmas.Slice.Eq.{bytes_eq-Decides}
 use Rattle.std.proofs.lemmas.Option.{slice_get_within}
 use Rattle.graph_model.specs.declared.events.Model.{Model}
 use Rattle.graph_model.specs.declared.events.Model.TheVariants.{Event as Instants, Persistent}
-use Rattle.graph_model.specs.Command.{Files, command, first_value, is_path, model_of, value_of}
+use Rattle.graph_model.specs.Command.{Files, command, first_value, is_path, model_of, option_value}
 use Rattle.graph_model.specs.Output.{model_word}
 use Rattle.query_run.specs.Commands.{HasOption, NamesFiles}
 
@@ -98,7 +98,7 @@ files_found words model events script names =
     rw (names.six, e, s, m, names.events_path, names.script_path, named) refl
 
 -- a value that is not empty stands behind its option
-stands : (words : List (List ℕ)) (option word : List ℕ) → value_of words option ≡ word → (word ≡ [] → ⊥) → HasOption words option word
+stands : (words : List (List ℕ)) (option word : List ℕ) → option_value words option ≡ word → (word ≡ [] → ⊥) → HasOption words option word
 stands words option word is some = by (first_value option words) refl is
   where
     by : (o : Option (List ℕ)) → first_value option words ≡ o → unwrap_or o [] ≡ word → HasOption words option word
@@ -125,25 +125,25 @@ files_named : (words : List (List ℕ)) (model : Model) (events script : List �
 files_named words model events script h = by ((length words == 6) && (is_path e && is_path s)) refl (model_of m) refl h
   where
     e : List ℕ
-    e = value_of words (codes "--events")
+    e = option_value words (codes "--events")
 
     s : List ℕ
-    s = value_of words (codes "--script")
+    s = option_value words (codes "--script")
 
     m : List ℕ
-    m = value_of words (codes "--model")
+    m = option_value words (codes "--model")
 
-    by : (t : Bool) → ((length words == 6) && (is_path (value_of words (codes "--events")) && is_path (value_of words (codes "--script")))) ≡ t → (o : Option Model) → model_of (value_of words (codes "--model")) ≡ o
-        → (if t then option_map (λ named. Files named (value_of words (codes "--events")) (value_of words (codes "--script"))) o else None) ≡ Some (Files model events script) → NamesFiles words model events script
+    by : (t : Bool) → ((length words == 6) && (is_path (option_value words (codes "--events")) && is_path (option_value words (codes "--script")))) ≡ t → (o : Option Model) → model_of (option_value words (codes "--model")) ≡ o
+        → (if t then option_map (λ named. Files named (option_value words (codes "--events")) (option_value words (codes "--script"))) o else None) ≡ Some (Files model events script) → NamesFiles words model events script
     by false test o of k = cc
     by true test None of k = cc
     by true test (Some named) of k =
-        let first = and_parts (length words == 6) (is_path (value_of words (codes "--events")) && is_path (value_of words (codes "--script"))) test in
-        let paths = and_parts (is_path (value_of words (codes "--events"))) (is_path (value_of words (codes "--script"))) first.1 in
-        let same_events : value_of words (codes "--events") ≡ events = cc in
-        let same_script : value_of words (codes "--script") ≡ script = cc in
+        let first = and_parts (length words == 6) (is_path (option_value words (codes "--events")) && is_path (option_value words (codes "--script"))) test in
+        let paths = and_parts (is_path (option_value words (codes "--events"))) (is_path (option_value words (codes "--script"))) first.1 in
+        let same_events : option_value words (codes "--events") ≡ events = cc in
+        let same_script : option_value words (codes "--script") ≡ script = cc in
         let same_model : named ≡ model = cc in
-        let word = model_is (value_of words (codes "--model")) model (of ∙ ap Some same_model) in
+        let word = model_is (option_value words (codes "--model")) model (of ∙ ap Some same_model) in
         let events_path : is_path events ≡ true = rw same_events at paths.0 in
         let script_path : is_path script ≡ true = rw same_script at paths.1 in
         record {

@@ -89,5 +89,5 @@ blocks-some refuses w number (line ∷ lines) lawful =
 pub output-some : (refuses : World → Query → Option QueryRefusal) (model : Model) (events script : List ℕ) → (text : List ℕ) × IsOutput refuses model events script text
 unfolding IsOutput
 output-some refuses model events script =
-    let (blocks, are) = blocks-some refuses (base_world model events) 1 (lines_of script) (file_printable model events).lawful in
+    let (blocks, are) = blocks-some refuses (base_world model events) 1 (lines_of script) (file_printable model events).storable.lawful in
     (text_with model events blocks, (blocks, are, refl))

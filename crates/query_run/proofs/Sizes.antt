@@ -27,8 +27,8 @@ use Rattle.graph_store.proofs.JudgeLaws.{count_is, names_of}
 use Rattle.view_answers.specs.Edges.{edge_names}
 use Rattle.view_answers.proofs.EdgeList.{edge_names_differ}
 use Rattle.query_answers.specs.Cost.{size_of}
-use Rattle.query_run.specs.Cost.{edges_in, is_named, size_read}
-use Rattle.query_run.specs.Told.{told}
+use Rattle.query_run.specs.Cost.{edges_in, is_known_from, size_read}
+use Rattle.query_run.specs.StoreReading.{reading_of}
 use Rattle.query_run.specs.declared.reading.FileReading.{FileReading}
 
 edge_equiv : IsEquivalence same_edge
@@ -66,15 +66,15 @@ edges-counted c h =
     ∙ (h.known_edges edge ∙ (any-about edge c.accepted ∙ sym (any_rising edge_cmp (same_edge edge) (λ x y e. ap (same_edge edge) (edge_exact x y e)) others))))
 
 -- a store knows what its events and types name
-names-known : (read : FileReading) → IsIndexed read.store → (x : Entity) → knows read.store x ≡ is_named (told read) x
+names-known : (read : FileReading) → IsIndexed read.store → (x : Entity) → knows read.store x ≡ is_known_from (reading_of read) x
 names-known read h (Node name) = h.known_nodes name ∙ names_of read.store.accepted read.store.types name
 names-known read h (Edge edge) = h.known_edges edge
 
 -- so the size of a store is that of what was read
-pub size_of-told : (read : FileReading) (r : Reading) → IsIndexed read.store → told read ≡ r → size_of read.store ≡ size_read r
-size_of-told read r h is =
+pub size_of-reading_of : (read : FileReading) (r : Reading) → IsIndexed read.store → reading_of read ≡ r → size_of read.store ≡ size_read r
+size_of-reading_of read r h is =
     let c = read.store in
     let nodes = count_is c.nodes (node_names c.accepted c.types) h.node_names (λ n. h.known_nodes n ∙ names_of c.accepted c.types n) in
     let edges = edges-counted c h in
-    let same : size_of c ≡ size_read (told read) = λ i. record { nodes = nodes i; edges = edges i; events = length c.accepted; is_known = λ x. names-known read h x i } in
+    let same : size_of c ≡ size_read (reading_of read) = λ i. record { nodes = nodes i; edges = edges i; events = length c.accepted; is_known = λ x. names-known read h x i } in
     same ∙ ap size_read is

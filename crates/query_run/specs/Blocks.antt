@@ -7,7 +7,7 @@ use Rattle.graph_model.specs.Script.{QueryRefusal, lines_of}
 use Rattle.graph_model.specs.World.{World}
 use Rattle.graph_store.specs.Contents.{base_of}
 use Rattle.query_answers.specs.Refusing.{asked_refusal}
-use Rattle.query_run.specs.Told.{told}
+use Rattle.query_run.specs.StoreReading.{reading_of}
 use Rattle.query_run.specs.declared.reading.FileReading.{FileReading}
 
 -- a text has become another by the block of a query, or of its refusal, put behind it
@@ -27,7 +27,7 @@ AddsLines w number lines old new = (blocks : List (List (List ℕ)))
 
 -- the text for what was read of an events file, and a script
 unfoldable pub IsText : FileReading → List ℕ → List ℕ → Type 0
-IsText read script text = let r = told read in
+IsText read script text = let r = reading_of read in
     (blocks : List (List (List ℕ)))
     × AreBlocks asked_refusal (base_of read.store) 1 (lines_of script) blocks
     × (text ≡ rows_text (map refused_row r.refused

@@ -35,9 +35,9 @@ edges_in (Edge edge) = edge ∷ []
 
 -- whether an entity is known from what was read: a node that an event or a type names, or an edge
 -- that an event is about
-abbrev pub is_named : Reading → Entity → Bool
-is_named r (Node name) = list_any (same_name name) (node_names r.accepted r.types)
-is_named r (Edge edge) = list_any (is_about (Edge edge)) r.accepted
+abbrev pub is_known_from : Reading → Entity → Bool
+is_known_from r (Node name) = list_any (same_name name) (node_names r.accepted r.types)
+is_known_from r (Edge edge) = list_any (is_about (Edge edge)) r.accepted
 
 -- the size of what was read of an events file
 abbrev pub size_read : Reading → GraphSize
@@ -45,7 +45,7 @@ size_read r = record {
   nodes = count.count_of count.Nodes r.accepted r.types;
   edges = length (rising edge_cmp (flat_map (λ (x : Event). edges_in (entity_of x)) r.accepted));
   events = length r.accepted;
-  is_known = is_named r;
+  is_known = is_known_from r;
 }
 
 -- whether a line has no query that is answered and not counted

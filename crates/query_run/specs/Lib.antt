@@ -1,5 +1,5 @@
 pub mod Causes
-pub mod Told
+pub mod StoreReading
 pub mod Cost
 pub mod Blocks
 pub mod Runs

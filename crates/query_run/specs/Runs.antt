@@ -43,14 +43,14 @@ Writes (InputFault which) command files old new = new ≡ old
 Writes (TooLong which) command files old new = new ≡ old
 
 -- a status at which some of the output may have been written
-abbrev pub IsWriting : Status → Type 0
-IsWriting Done = ⊤
-IsWriting DoneWithRefusals = ⊤
-IsWriting OutputFault = ⊤
-IsWriting Usage = ⊥
-IsWriting Memory = ⊥
-IsWriting (InputFault which) = ⊥
-IsWriting (TooLong which) = ⊥
+abbrev pub MayHaveWritten : Status → Type 0
+MayHaveWritten Done = ⊤
+MayHaveWritten DoneWithRefusals = ⊤
+MayHaveWritten OutputFault = ⊤
+MayHaveWritten Usage = ⊥
+MayHaveWritten Memory = ⊥
+MayHaveWritten (InputFault which) = ⊥
+MayHaveWritten (TooLong which) = ⊥
 
 -- the path of a file that a command names
 abbrev pub path_of : Which → Command → List ℕ
@@ -89,13 +89,13 @@ IsAnswered OutputFault = ⊥
 IsAnswered (TooLong which) = ⊥
 
 -- how many files are begun when a file is read
-abbrev pub place_of : Which → ℕ
-place_of Events = 1
-place_of Script = 2
+abbrev pub begun_for : Which → ℕ
+begun_for Events = 1
+begun_for Script = 2
 
 -- a file was begun, and more bytes of it were given than it may have
 abbrev pub IsOver : Which → ℕ → ℕ → ℕ → Type 0
-IsOver which begun_before begun given = (begun ≡ (begun_before + place_of which) % 2 ^ 64) × (most_of which < given)
+IsOver which begun_before begun given = (begun ≡ (begun_before + begun_for which) % 2 ^ 64) × (most_of which < given)
 
 -- the words are no command, or a file that they name is missing
 abbrev pub IsAmiss : Option Command → Option (List (List ℕ × List ℕ)) → Type 0

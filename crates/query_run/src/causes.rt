@@ -7,7 +7,7 @@ ghost use Rattle.graph_model.specs.Refusal.{RecordRefusal, record_refusal_name};
 ghost use Rattle.graph_model.specs.Said.{Said};
 ghost use Rattle.event_rows.specs.Parsing.{Refuses};
 ghost use Rattle.graph_store.specs.Contents.{Contents};
-ghost use Rattle.graph_store.specs.Judged.{IsRefusal, IsTypeRefusal};
+ghost use Rattle.graph_store.specs.Refusals.{IsRefusal, IsTypeRefusal};
 ghost use Rattle.query_run.specs.Causes.{refusal_of};
 
 use event_rows::RowRefusal;

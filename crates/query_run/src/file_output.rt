@@ -9,11 +9,11 @@ ghost use Rattle.query_answers.specs.Cost.{size_of};
 ghost use Rattle.query_answers.specs.Refusing.{asked_refusal};
 ghost use Rattle.query_run.specs.Blocks.{IsText};
 ghost use Rattle.query_run.specs.Cost.{counted_steps, is_counted_line, is_counted_script, lines_steps};
-ghost use Rattle.query_run.specs.Told.{refused_of, told};
+ghost use Rattle.query_run.specs.StoreReading.{refused_of, reading_of};
 
 use crate::line_blocks::add_lines;
+use crate::output_rows::{add_graph, add_refused};
 use crate::reading::{FileReading, RefusedRecord, read_events};
-use crate::rows::{add_graph, add_refused};
 use event_rows::RowWriter;
 use graph_model::{Memory, Model};
 use std::alloc::Global;
@@ -49,7 +49,7 @@ fn answer_read<L: Ledger>(
     requires short { length script.now < u32.MAX }
     ensures text { IfOk result (λ answer. IsText read.now script.now answer.text.items) }
     ensures clean { IfOk result (λ answer. answer.clean
-        ≡ ((length (told read.now).refused == 0)
+        ≡ ((length (reading_of read.now).refused == 0)
         && list_all (is_clean_line asked_refusal (base_of read.now.store)) (lines_of script.now))) }
     ensures cost { let w = base_of read.now.store in let lines = lines_of script.now in
         IsTrue (list_all (is_counted_line w) lines)

@@ -7,9 +7,9 @@ mod file_output;
 mod laws;
 mod line_blocks;
 mod lines;
+mod output_rows;
 mod query_causes;
 mod reading;
-mod rows;
 mod top;
 mod words;
 

@@ -14,8 +14,8 @@ ghost use Rattle.query_run.specs.Causes.{query_refusal_of};
 ghost use Rattle.query_run.specs.Cost.{is_counted_line, is_counted_said, line_steps, lines_steps, said_steps};
 
 use crate::lines::{first_line, has_only_spaces};
+use crate::output_rows::add_refused_query;
 use crate::query_causes::{QueryCause, line_cause};
-use crate::rows::add_refused_query;
 use event_rows::RowWriter;
 use graph_model::{Memory, Query};
 use graph_store::Store;

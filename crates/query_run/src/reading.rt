@@ -5,9 +5,9 @@ ghost use Rattle.graph_model.specs.Reading.{Refused as IsRefusedFor, judge, judg
 ghost use Rattle.graph_model.specs.Said.{SaysEvent, SaysType};
 ghost use Rattle.graph_model.specs.Interval.{is_inside};
 ghost use Rattle.graph_model.specs.Searches.{digits};
-ghost use Rattle.event_rows.specs.Parsing.{IsAtFront, IsWithin, said_of};
+ghost use Rattle.event_rows.specs.Parsing.{IsAtFront, IsInsideBounds, said_of};
 ghost use Rattle.query_run.specs.Causes.{refusal_of};
-ghost use Rattle.query_run.specs.Told.{IsFresh, told};
+ghost use Rattle.query_run.specs.StoreReading.{IsFresh, reading_of};
 ghost use Rattle.query_answers.specs.Cost.{size_of};
 ghost use Rattle.query_run.specs.Cost.{most_steps, paid_steps, size_read};
 
@@ -36,7 +36,7 @@ pub struct FileReading {
 
 // Notes a refused record.
 fn refuse(read: &mut FileReading, number: u64, cause: Cause) -> Result<(), Memory>
-    ensures told { OnOk result (told read.new ≡ with_record (told read.old) number (IsRefusedFor (refusal_of cause))) }
+    ensures told { OnOk result (reading_of read.new ≡ with_record (reading_of read.old) number (IsRefusedFor (refusal_of cause))) }
     ensures store { read.new.store ≡ read.old.store }
 {
     read.refused.push(RefusedRecord { number, cause })?;
@@ -45,7 +45,7 @@ fn refuse(read: &mut FileReading, number: u64, cause: Cause) -> Result<(), Memor
 
 // Takes the type of a node.
 fn take_type(read: &mut FileReading, number: u64, node: Name, kind: Name) -> Result<(), Memory>
-    ensures told { OnOk result (told read.new ≡ with_record (told read.old) number (judge_said read.old.store.model (told read.old) (Ok (SaysType node kind)))) }
+    ensures told { OnOk result (reading_of read.new ≡ with_record (reading_of read.old) number (judge_said read.old.store.model (reading_of read.old) (Ok (SaysType node kind)))) }
     ensures model { read.new.store.model ≡ read.old.store.model }
 {
     match read.store.set_type(node, kind) {
@@ -65,7 +65,7 @@ fn take_event<L: Ledger>(
     steps: &mut Steps<L>,
 ) -> Result<(), Memory>
     requires { IsTrue (is_inside read.old.store.bounds event.time) }
-    ensures told { OnOk result (told read.new ≡ with_record (told read.old) number (judge_said read.old.store.model (told read.old) (Ok (SaysEvent event)))) }
+    ensures told { OnOk result (reading_of read.new ≡ with_record (reading_of read.old) number (judge_said read.old.store.model (reading_of read.old) (Ok (SaysEvent event)))) }
     ensures model { read.new.store.model ≡ read.old.store.model }
     ensures paid { OnOk result (steps.new + paid_steps (length read.old.store.accepted) ≤ steps.old + paid_steps (length read.new.store.accepted)) }
     ensures cost { OnErr result (steps.new ≤ steps.old + (digits (length read.old.store.accepted) + 1)) }
@@ -82,7 +82,7 @@ fn take_event<L: Ledger>(
 // Takes the bounds of the graph, before any event or type.
 fn take_bounds(alloc: Global, read: &mut FileReading, bounds: Bounds)
     requires { IsFresh read.old.store }
-    ensures told { told read.new ≡ record (told read.old) { bounds = bounds } }
+    ensures told { reading_of read.new ≡ record (reading_of read.old) { bounds = bounds } }
     ensures model { read.new.store.model ≡ read.old.store.model }
     ensures fresh { IsFresh read.new.store }
 {
@@ -98,9 +98,9 @@ fn take_said<L: Ledger>(
     steps: &mut Steps<L>,
 ) -> Result<(), Memory>
     requires front { IsAtFront (number == 1) said }
-    requires inside { IsWithin read.old.store.bounds said }
+    requires inside { IsInsideBounds read.old.store.bounds said }
     requires fresh { number ≡ 1 → IsFresh read.old.store }
-    ensures told { OnOk result (told read.new ≡ with_record (told read.old) number (judge_said read.old.store.model (told read.old) (Ok (said_of said)))) }
+    ensures told { OnOk result (reading_of read.new ≡ with_record (reading_of read.old) number (judge_said read.old.store.model (reading_of read.old) (Ok (said_of said)))) }
     ensures model { read.new.store.model ≡ read.old.store.model }
     ensures paid { OnOk result (steps.new + paid_steps (length read.old.store.accepted) ≤ steps.old + paid_steps (length read.new.store.accepted)) }
     ensures cost { OnErr result (steps.new ≤ steps.old + (digits (length read.old.store.accepted) + 1)) }
@@ -124,7 +124,7 @@ fn take_record<L: Ledger>(
     steps: &mut Steps<L>,
 ) -> Result<(), Memory>
     requires { number ≡ 1 → IsFresh read.old.store }
-    ensures told { OnOk result (told read.new ≡ with_record (told read.old) number (judge read.old.store.model (told read.old) (number == 1) (fields_of fields.now))) }
+    ensures told { OnOk result (reading_of read.new ≡ with_record (reading_of read.old) number (judge read.old.store.model (reading_of read.old) (number == 1) (fields_of fields.now))) }
     ensures model { read.new.store.model ≡ read.old.store.model }
     ensures paid { OnOk result (steps.new + paid_steps (length read.old.store.accepted) ≤ steps.old + paid_steps (length read.new.store.accepted)) }
     ensures cost { OnErr result (steps.new ≤ steps.old + (digits (length read.old.store.accepted) + 1)) }
@@ -145,8 +145,8 @@ fn take_all<L: Ledger>(
     bytes: &[u8],
     steps: &mut Steps<L>,
 ) -> Result<(), Memory>
-    requires { told read.old ≡ nothing_read }
-    ensures told { OnOk result (told read.new ≡ reading read.old.store.model bytes.now) }
+    requires { reading_of read.old ≡ nothing_read }
+    ensures told { OnOk result (reading_of read.new ≡ reading read.old.store.model bytes.now) }
     ensures model { read.new.store.model ≡ read.old.store.model }
     ensures cost { steps.new ≤ steps.old + most_steps (length (reading read.old.store.model bytes.now).accepted) }
 {
@@ -170,7 +170,7 @@ pub fn read_events<L: Ledger>(
     bytes: &[u8],
     steps: &mut Steps<L>,
 ) -> Result<FileReading, Memory>
-    ensures told { IfOk result (λ read. told read ≡ reading model bytes.now) }
+    ensures told { IfOk result (λ read. reading_of read ≡ reading model bytes.now) }
     ensures model { IfOk result (λ read. read.store.model ≡ model) }
     ensures size { IfOk result (λ read. size_of read.store ≡ size_read (reading model bytes.now)) }
     ensures cost { steps.new ≤ steps.old + most_steps (length (reading model bytes.now).accepted) }

@@ -4,7 +4,7 @@ ghost use Rattle.std.specs.Io.KnownBytes.{IsAtEnd};
 ghost use Rattle.graph_model.specs.Command.{command};
 ghost use Rattle.graph_model.specs.Limits.{most_events_bytes, most_script_bytes};
 ghost use Rattle.outside_io.specs.Outside.{Rises};
-ghost use Rattle.query_run.specs.Runs.{HasEvents, IsAmiss, IsAnswered, IsCounted, IsOver, IsTooLong, IsWriting, Misses, Writes};
+ghost use Rattle.query_run.specs.Runs.{HasEvents, IsAmiss, IsAnswered, IsCounted, IsOver, IsTooLong, MayHaveWritten, Misses, Writes};
 
 use crate::file_output::answer_files;
 use crate::words::read_words;
@@ -85,7 +85,7 @@ pub fn run<I: Inputs, O: Sink, L: Ledger>(
         → HasEvents (command words.now) (I.files inputs.old) }
 
     // An output, or a front of it, stands on both files, read to their ends.
-    ensures to_the_ends { IsWriting result
+    ensures to_the_ends { MayHaveWritten result
         → (I.begun inputs.new ≡ (I.begun inputs.old + 2) % 2 ^ 64)
         × IfSome (I.had_left inputs.new) (λ had. had ≡ false) × IsAtEnd (I.left inputs.new) }
 

@@ -1,6 +1,6 @@
 // The words of a command line.
 ghost use Rattle.std.specs.Prelude.{◌≡◌, None, MatchOption, Some, length};
-ghost use Rattle.graph_model.specs.Command.{Files, command, is_path, model_of, value_of};
+ghost use Rattle.graph_model.specs.Command.{Files, command, is_path, model_of, option_value};
 
 use graph_model::{Model, Words};
 
@@ -15,7 +15,7 @@ pub struct Command<'w> {
 // The word behind an option, or an empty one.
 fn value<'w>(words: &'w Words, option: &str) -> &'w str
     requires { length words.now ≡ 6 }
-    ensures { result.now ≡ value_of words.now option.now }
+    ensures { result.now ≡ option_value words.now option.now }
 {
     for i in 0..3 {
         if words.item(2 * i) == option {

@@ -11,12 +11,12 @@ use Rattle.graph_model.specs.declared.queries.Ask.TheVariants.{Nodes, Edges, Eve
 use Rattle.graph_model.specs.declared.queries.Op.TheVariants.{Valid}
 use Rattle.graph_model.specs.QueryForms.{Forms, alone, ask_forms, by_forms, by_word, each_forms, each_said, four, hops, one, rolling, three, two, view_forms, view_said}
 use Rattle.graph_model.specs.QueryLine.{ask_in, depth_of, each_in, has_query_keys, parts_said, query_from, value_said, views_in, views_listed}
-use Rattle.graph_model.specs.QueryOutcome.{both, made, put_last, with_last}
+use Rattle.graph_model.specs.QueryOutcome.{both, map_outcome, put_last, with_last}
 use Rattle.graph_model.specs.QueryPlaces.{as_list, bound, comparison, comparisons, core_number, direction, directions, held, meaning, moment, name, names, names_in, place, ranged, step, text_of, value, word_of}
 use Rattle.graph_model.specs.Range.{is_bound, is_core_number, is_moment, is_step}
 use Rattle.graph_model.specs.Script.{QueryRefusal, Shape, Number, Depth}
 use Rattle.graph_model.specs.TextForm.{is_name_long, is_text_long}
-use Rattle.query_script.specs.Ones.{with_ones}
+use Rattle.query_script.specs.WithOnes.{with_ones}
 use Rattle.query_script.specs.Order.{is_refused_by}
 use Rattle.query_script.proofs.Judged as judged
 use Rattle.query_script.proofs.Ones.{as_list-ones, get-ones, has_keys-ones, place-ones, text-ones, word-ones}
@@ -48,7 +48,7 @@ of_both x a y b p q = record {
   number = judged.of_both Number a b ∙ either _ _ _ _ p.number q.number ∙ sym (judged.of_both Shape x y);
 }
 
-of_made : {A B : Type 0} (make : A → B) (x a : Result A QueryRefusal) → IsAlike x a → IsAlike (made make x) (made make a)
+of_made : {A B : Type 0} (make : A → B) (x a : Result A QueryRefusal) → IsAlike x a → IsAlike (map_outcome make x) (map_outcome make a)
 of_made make x a p = record {
   shape = judged.of_made Shape make a ∙ p.shape ∙ sym (judged.of_made Shape make x);
   number = judged.of_made Number make a ∙ p.number ∙ sym (judged.of_made Shape make x);
@@ -134,7 +134,7 @@ of_comparison d = of_word_of comparisons d
 of_direction : (d : Data) → IsAlike (direction d) (direction (with_ones d))
 of_direction d = of_word_of directions d
 
-of_int : (o : Option ℤ) → IsAlike (made Int (held o)) (Ok (Int (pos 1)))
+of_int : (o : Option ℤ) → IsAlike (map_outcome Int (held o)) (Ok (Int (pos 1)))
 of_int None = wrong (Int (pos 1))
 of_int (Some z) = fine (Int z) (Int (pos 1))
 
@@ -159,7 +159,7 @@ counted {A} n items x y a b p q =
 IsForm : {A : Type 0} → (List Data → Result A QueryRefusal) → Type 0
 IsForm form = (items : List Data) → IsAlike (form items) (form (map with_ones items))
 
-makes : {A B : Type 0} (make : A → B) (form : List Data → Result A QueryRefusal) → IsForm form → IsForm (λ items. made make (form items))
+makes : {A B : Type 0} (make : A → B) (form : List Data → Result A QueryRefusal) → IsForm form → IsForm (λ items. map_outcome make (form items))
 unfolding IsForm
 makes make form h items = of_made make (form items) (form (map with_ones items)) (h items)
 
@@ -377,8 +377,8 @@ of_parts d =
 
 pub value-alike : (d : Data) → IsAlike (value_said d) (value_said (with_ones d))
 value-alike d =
-    let x = made query_from (parts_said d) in
-    let a = made query_from (parts_said (with_ones d)) in
+    let x = map_outcome query_from (parts_said d) in
+    let a = map_outcome query_from (parts_said (with_ones d)) in
     let P : Bool → Type 0 = λ t. IsAlike (value_said d) (cond t a (Err Shape)) in
     subst P (sym (has_keys-ones d)) (choice (has_query_keys (as_object d)) x (Err Shape) a (Err Shape) (of_made query_from (parts_said d) (parts_said (with_ones d)) (of_parts d)) shapes)
 

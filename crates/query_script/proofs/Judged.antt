@@ -7,7 +7,7 @@ use Rattle.serde_json.specs.Data.{Data}
 use Rattle.serde_json.specs.Find.{as_object, get}
 use Rattle.graph_model.specs.QueryForms.{view_said}
 use Rattle.graph_model.specs.QueryLine.{ask_in, depth_of, each_in, has_query_keys, parts_said, query_from, value_said, views_in, views_listed}
-use Rattle.graph_model.specs.QueryOutcome.{both, judged_as, made, with_last}
+use Rattle.graph_model.specs.QueryOutcome.{both, judged_as, map_outcome, with_last}
 use Rattle.graph_model.specs.QueryPlaces.{as_list}
 use Rattle.graph_model.specs.Script.{QueryRefusal, Shape}
 use Rattle.query_script.specs.Order.{are_refused_by, is_refused_by, parts_refused_by, value_refused_by, views_refused_by}
@@ -45,7 +45,7 @@ of_both why (Ok a) (Err f) = refl
 of_both why (Err e) (Ok b) = sym (or_false (nat_le (judged_as e) (judged_as why)))
 of_both why (Err e) (Err f) = first_by (nat_le (judged_as e) (judged_as f)) e f (judged_as why) refl
 
-pub of_made : {A B : Type 0} (why : QueryRefusal) (make : A → B) (a : Result A QueryRefusal) → is_refused_by why (made make a) ≡ is_refused_by why a
+pub of_made : {A B : Type 0} (why : QueryRefusal) (make : A → B) (a : Result A QueryRefusal) → is_refused_by why (map_outcome make a) ≡ is_refused_by why a
 of_made why make (Ok a) = refl
 of_made why make (Err e) = refl
 
@@ -82,4 +82,4 @@ of_keys why true r s e = e
 of_keys why false r s e = refl
 
 pub value-refused : (why : QueryRefusal) (d : Data) → is_refused_by why (value_said d) ≡ value_refused_by why d
-value-refused why d = of_keys why (has_query_keys (as_object d)) (made query_from (parts_said d)) (parts_refused_by why d) (of_made why query_from (parts_said d) ∙ of_parts why d)
+value-refused why d = of_keys why (has_query_keys (as_object d)) (map_outcome query_from (parts_said d)) (parts_refused_by why d) (of_made why query_from (parts_said d) ∙ of_parts why d)

@@ -18,7 +18,7 @@ use Rattle.graph_model.specs.declared.queries.Op.{Op}
 use Rattle.graph_model.specs.declared.queries.Query.{Query}
 use Rattle.graph_model.specs.QueryForms.{Forms, alone, ask_forms, by_forms, by_word, each_forms, each_said, four, hops, one, rolling, three, two, view_forms, view_said}
 use Rattle.graph_model.specs.QueryLine.{ask_in, depth_of, each_in, has_query_keys, parts_said, query_from, query_said, reading_said, value_said, views_in, views_listed}
-use Rattle.graph_model.specs.QueryOutcome.{both, judged_as, made, put_last, with_last}
+use Rattle.graph_model.specs.QueryOutcome.{both, judged_as, map_outcome, put_last, with_last}
 use Rattle.graph_model.specs.QueryPlaces.{as_list, bound, comparison, comparisons, core_number, count_in, direction, directions, held, meaning, moment, name, name_in, names, names_in, place, ranged, step, text_of, value, whole, whole_in, word_of}
 use Rattle.graph_model.specs.Range.{ask_in_range, each_in_range, is_bound, is_core_number, is_moment, is_step, op_in_range, query_in_range}
 use Rattle.graph_model.specs.Script.{QueryRefusal, Json, Shape, Number, Depth}
@@ -78,7 +78,7 @@ of_both P Q (Ok a) (Err f) p q = record { kept = q.kept }
 of_both P Q (Err e) (Ok b) p q = record { kept = p.kept }
 of_both P Q (Err e) (Err f) p q = record { kept = of_first (nat_le (judged_as e) (judged_as f)) e f p.kept q.kept }
 
-of_made : {A B : Type 0} (P : A → Bool) (Q : B → Bool) (make : A → B) → ((a : A) → P a ≡ true → Q (make a) ≡ true) → (r : Result A QueryRefusal) → IsKept P r → IsKept Q (made make r)
+of_made : {A B : Type 0} (P : A → Bool) (Q : B → Bool) (make : A → B) → ((a : A) → P a ≡ true → Q (make a) ≡ true) → (r : Result A QueryRefusal) → IsKept P r → IsKept Q (map_outcome make r)
 of_made P Q make h (Ok a) p = record { kept = h a p.kept }
 of_made P Q make h (Err e) p = record { kept = p.kept }
 
@@ -209,7 +209,7 @@ of_forms : {A : Type 0} (P : A → Bool) (forms : Forms A) → AllKept P forms �
 of_forms P forms h None = shape P
 of_forms P forms h (Some items) = of_word P forms h (word_of items) items
 
-names_view : (make : List (List ℕ) → Op) → ((ns : List (List ℕ)) → op_in_range (make ns) ≡ true) → (items : List Data) → IsKept op_in_range (made make (one names items))
+names_view : (make : List (List ℕ) → Op) → ((ns : List (List ℕ)) → op_in_range (make ns) ≡ true) → (items : List Data) → IsKept op_in_range (map_outcome make (one names items))
 names_view make h items = of_made any op_in_range make (λ ns k. h ns) (one names items) (of_one any names of_names items)
 
 views_kept : AllKept op_in_range view_forms
@@ -252,11 +252,11 @@ views_kept = (
   ),
 )
 
-name_ask : (make : List ℕ → Ask) → ((n : List ℕ) → ask_in_range (make n) ≡ true) → (items : List Data) → IsKept ask_in_range (made make (one name items))
+name_ask : (make : List ℕ → Ask) → ((n : List ℕ) → ask_in_range (make n) ≡ true) → (items : List Data) → IsKept ask_in_range (map_outcome make (one name items))
 name_ask make h items = of_made any ask_in_range make (λ n k. h n) (one name items) (of_one any name of_name items)
 
 hops_kept : (items : List Data) → IsKept ask_in_range (hops items)
-hops_kept items = choice ask_in_range (length items == 2) (made (λ n. Hops n Outward) (one name items)) (made (λ p. Hops p.0 p.1) (two name direction items))
+hops_kept items = choice ask_in_range (length items == 2) (map_outcome (λ n. Hops n Outward) (one name items)) (map_outcome (λ p. Hops p.0 p.1) (two name direction items))
     (name_ask (λ n. Hops n Outward) (λ n. refl) items)
     (of_made (λ (p : List ℕ × Direction). any p.0 && any p.1) ask_in_range _ (λ p k. refl) (two name direction items) (of_pair any any name direction of_name of_direction items))
 
@@ -316,7 +316,7 @@ asks_kept = (
 )
 
 rolling_kept : (items : List Data) → IsKept each_in_range (rolling items)
-rolling_kept items = choice each_in_range (length items == 2) (made (λ w. Rolling w w) (one step items)) (made (λ p. Rolling p.0 p.1) (two step step items))
+rolling_kept items = choice each_in_range (length items == 2) (map_outcome (λ w. Rolling w w) (one step items)) (map_outcome (λ p. Rolling p.0 p.1) (two step step items))
     (of_made is_step each_in_range (λ w. Rolling w w) (λ w h. and_true (is_step w) (is_step w) h h) (one step items) (of_one is_step step of_step items))
     (of_made (λ p. is_step p.0 && is_step p.1) each_in_range (λ p. Rolling p.0 p.1) (λ p h. h) (two step step items) (of_pair is_step is_step step step of_step of_step items))
 
@@ -363,7 +363,7 @@ query_fits : (p : (Ask × List Op) × Option Each) → ((ask_in_range p.0.0 && l
 query_fits p h = sym (and_assoc (ask_in_range p.0.0) (list_all op_in_range p.0.1) (option_map_or each_in_range p.1 true)) ∙ h
 
 pub value-kept : (d : Data) → IsKept query_in_range (value_said d)
-value-kept d = choice query_in_range (has_query_keys (as_object d)) (made query_from (parts_said d)) (Err Shape)
+value-kept d = choice query_in_range (has_query_keys (as_object d)) (map_outcome query_from (parts_said d)) (Err Shape)
     (of_made (λ (p : (Ask × List Op) × Option Each). (ask_in_range p.0.0 && list_all op_in_range p.0.1) && option_map_or each_in_range p.1 true) query_in_range query_from query_fits (parts_said d) (of_parts d))
     (shape query_in_range)
 

@@ -11,7 +11,7 @@ use Rattle.serde_json.specs.Data.{Data, null, boolean, number, string, array, ob
 use Rattle.serde_json.specs.Find.{as_object, get, get_member}
 use Rattle.graph_model.specs.QueryLine.{has_query_keys, is_query_key, keys_of}
 use Rattle.graph_model.specs.QueryPlaces.{as_list, list_of, place, text_of, word_of}
-use Rattle.query_script.specs.Ones.{items_with_ones, members_with_ones, with_ones}
+use Rattle.query_script.specs.WithOnes.{items_with_ones, members_with_ones, with_ones}
 
 list_of-ones : (ds : Items) → list_of (items_with_ones ds) ≡ map with_ones (list_of ds)
 list_of-ones no_items = refl

@@ -1,4 +1,4 @@
 pub mod Refusing
 pub mod Order
-pub mod Ones
+pub mod WithOnes
 pub mod Tables

@@ -12,7 +12,7 @@ ghost use Rattle.graph_model.specs.declared.queries.Direction.TheVariants as way
 ghost use Rattle.graph_model.specs.declared.queries.Op.TheVariants as view;
 ghost use Rattle.graph_model.specs.declared.queries.Query.{Query};
 ghost use Rattle.graph_model.specs.declared.properties.Value.TheVariants as value;
-ghost use Rattle.query_script.specs.Ones.{with_ones};
+ghost use Rattle.query_script.specs.WithOnes.{with_ones};
 ghost use Rattle.query_script.specs.Order.{is_refused_by, lies_in_value, value_refused_by};
 
 /// A value is refused for a cause, or for one that is judged before it, exactly where it is no object of the three keys, or one of its

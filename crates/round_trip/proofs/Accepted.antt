@@ -10,7 +10,7 @@ use Rattle.graph_model.specs.declared.events.What.{What}
 use Rattle.graph_model.specs.declared.events.What.TheVariants as what
 use Rattle.graph_model.specs.declared.events.Event.{Event}
 use Rattle.graph_model.specs.declared.events.Model.{Model}
-use Rattle.graph_model.specs.Accepting.{Counted, EdgeKeys, Events, Layers, NodeKeys, Nodes, Types, event_refusal, is_other_type, mistyped, passed_limit, type_refusal}
+use Rattle.graph_model.specs.Accepting.{Quantity, EdgeKeys, Events, Layers, NodeKeys, Nodes, Types, event_refusal, is_other_type, mistyped, passed_limit, type_refusal}
 use Rattle.graph_model.specs.Entity.{props_of, what_props}
 use Rattle.graph_model.specs.Interval.{Interval, earliest, is_inside, latest}
 use Rattle.graph_model.specs.PropertyField.{has_no_colon}
@@ -20,7 +20,7 @@ use Rattle.graph_model.specs.Refusal.{Deletion, KeyType, Limit, RecordRefusal, R
 use Rattle.graph_model.specs.Rising.{Rises, put_rising}
 use Rattle.graph_model.specs.RowText.{world_text}
 use Rattle.graph_model.specs.Said.{Said, SaysBounds, SaysEvent, SaysType, row_of}
-use Rattle.graph_model.specs.World.{World, all_typed, allows, arrange, event_cmp, named, put_type, type_cmp, types_in}
+use Rattle.graph_model.specs.World.{World, all_typed, allows, arrange, event_cmp, names_node, put_type, type_cmp, types_in}
 use Rattle.world_laws.proofs.Base.{IsLawful-base}
 use Rattle.world_laws.proofs.Counts.{length_in_order}
 use Rattle.world_laws.proofs.Filters.{each_append, each_kept, each_weaker}
@@ -50,7 +50,7 @@ record IsRead (model : Model) (r : Reading) : Type 0 where
 
 -- ---- refusals
 
-not_passed : (o : Option Counted) (why : RecordRefusal) → (if is_some o then Some why else None) ≡ None → o ≡ None
+not_passed : (o : Option Quantity) (why : RecordRefusal) → (if is_some o then Some why else None) ≡ None → o ≡ None
 not_passed None why e = refl
 not_passed (Some k) why e = cc e
 
@@ -190,10 +190,10 @@ world_read model r h = record {
         h.typed h.rise;
     limits = let size = length_in_order event_cmp r.accepted in
         within_fewer r.accepted r.types (arrange r.accepted) (types_in (arrange r.accepted) r.types) h.limits (omega (arith, size)) (each_in_order event_cmp (IsOf r.accepted) r.accepted (each_own r.accepted))
-        (each_kept (IsTypeOf r.types) (λ (t : List ℕ × List ℕ). named (arrange r.accepted) t.0) r.types (each_own_type r.types));
+        (each_kept (IsTypeOf r.types) (λ (t : List ℕ × List ℕ). names_node (arrange r.accepted) t.0) r.types (each_own_type r.types));
   };
   bounds = h.bounds;
-  types = each_kept IsSayableType (λ (t : List ℕ × List ℕ). named (arrange r.accepted) t.0) r.types h.types;
+  types = each_kept IsSayableType (λ (t : List ℕ × List ℕ). names_node (arrange r.accepted) t.0) r.types h.types;
   events = each_in_order event_cmp (IsSayable r.bounds) r.accepted h.events;
 }
 

@@ -6,7 +6,7 @@ use Rattle.std.specs.declared.cmp.Ordering.TheVariants.{Less}
 use Rattle.std.proofs.lemmas.List.{append-nil, map-append}
 use Rattle.graph_model.specs.declared.events.Event.{Event}
 use Rattle.graph_model.specs.declared.events.Model.{Model}
-use Rattle.graph_model.specs.Answer.{Recorded, Typed, row_fields}
+use Rattle.graph_model.specs.Answer.{EventRow, TypeRow, row_fields}
 use Rattle.graph_model.specs.Interval.{Interval}
 use Rattle.graph_model.specs.Reading.{Reading, Spans, base_world, judge, nothing_read, read_on, reading, with_record, world_of}
 use Rattle.graph_model.specs.Record.{event_fields, span_fields, type_fields}
@@ -39,13 +39,13 @@ type_read model bounds n first front t sayable less within =
 -- types that rise are read one behind another
 types_read : (model : Model) (bounds : Interval) (front back : List (List ℕ × List ℕ)) (rest : List (List (List ℕ))) (r : Reading) → Rises type_cmp (front ++ back) → AreWithinLimits [] (front ++ back) → AllByRecursion IsSayableType back
     → ((n : ℕ) → read_on model (given bounds [] (front ++ back)) n rest ≡ r)
-    → (n : ℕ) → read_on model (given bounds [] front) n (map row_fields (map (λ (t : List ℕ × List ℕ). Typed t.0 t.1) back) ++ rest) ≡ r
+    → (n : ℕ) → read_on model (given bounds [] front) n (map row_fields (map (λ (t : List ℕ × List ℕ). TypeRow t.0 t.1) back) ++ rest) ≡ r
 types_read model bounds front [] rest r rise within each more n = rw (sym (append-nil front)) (more n)
 types_read model bounds front (t ∷ back) rest r rise within each more n =
     let one = append_assoc front (t ∷ []) back in
     let next = types_read model bounds (front ++ t ∷ []) back rest r (subst (Rises type_cmp) (sym one) rise) (subst (AreWithinLimits []) (sym one) within) each.1 (λ m. ap (λ ts. read_on model (given bounds [] ts) m rest) one ∙ more m) (n + 1) in
     let step = type_read model bounds n (n == 1) front t each.0 (behind front t back rise) (within_front [] [] (front ++ t ∷ []) back (subst (AreWithinLimits []) (sym one) within)) in
-    ap (λ s. read_on model s (n + 1) (map row_fields (map (λ (t : List ℕ × List ℕ). Typed t.0 t.1) back) ++ rest)) step ∙ next
+    ap (λ s. read_on model s (n + 1) (map row_fields (map (λ (t : List ℕ × List ℕ). TypeRow t.0 t.1) back) ++ rest)) step ∙ next
 
 -- ---- events
 
@@ -62,7 +62,7 @@ record AreTaken (model : Model) (bounds : Interval) (types : List (List ℕ × L
   pub within : AreWithinLimits xs types
 
 events_read : (model : Model) (bounds : Interval) (types : List (List ℕ × List ℕ)) (front back : List Event) → AreTaken model bounds types (front ++ back)
-    → (n : ℕ) → read_on model (given bounds front types) n (map row_fields (map Recorded back)) ≡ given bounds (front ++ back) types
+    → (n : ℕ) → read_on model (given bounds front types) n (map row_fields (map EventRow back)) ≡ given bounds (front ++ back) types
 events_read model bounds types front [] h n = rw (append-nil front) refl
 events_read model bounds types front (x ∷ back) h n =
     let one = append_assoc front (x ∷ []) back in
@@ -72,15 +72,15 @@ events_read model bounds types front (x ∷ back) h n =
     let within : AreWithinLimits ((front ++ x ∷ []) ++ back) types = subst (λ ys. AreWithinLimits ys types) (sym one) h.within in
     let few = within_front (front ++ x ∷ []) back types [] (subst (AreWithinLimits ((front ++ x ∷ []) ++ back)) (sym (append-nil types)) within) in
     let step = event_read model bounds types n (n == 1) front x (each_middle (IsSayable bounds) front x back h.sayable) (each_middle (λ y. allows model y ≡ true) front x back h.allowed) agree few in
-    ap (λ s. read_on model s (n + 1) (map row_fields (map Recorded back))) step ∙ (next ∙ ap (λ ys. given bounds ys types) one)
+    ap (λ s. read_on model s (n + 1) (map row_fields (map EventRow back))) step ∙ (next ∙ ap (λ ys. given bounds ys types) one)
 
 -- ---- a world
 
 -- the rows of a world that can be printed
 pub world_said : (w : World) → IsPrintable w → reading w.model (world_text w) ≡ given w.bounds w.events w.types
 world_said w h =
-    let types = map (λ (t : List ℕ × List ℕ). Typed t.0 t.1) w.types in
-    let events = map Recorded w.events in
+    let types = map (λ (t : List ℕ × List ℕ). TypeRow t.0 t.1) w.types in
+    let events = map EventRow w.events in
     let parts = map-append row_fields types events in
     let none : AreWithinLimits [] w.types = within_front [] w.events w.types [] (subst (AreWithinLimits w.events) (sym (append-nil w.types)) h.storable.limits) in
     let taken : AreTaken w.model w.bounds w.types w.events = record {

@@ -15,15 +15,15 @@ use Rattle.graph_model.specs.PropertyField.{IsWritable, WritesValue, property_of
 use Rattle.graph_model.specs.Props.{has_key, put_prop}
 use Rattle.graph_model.specs.Range.{is_moment}
 use Rattle.graph_model.specs.Refusal.{Name, Outside, RecordRefusal, Text as NoText, Time}
-use Rattle.graph_model.specs.Said.{OfAddition, OfBounds, OfDeletion, OfType, OfUpdate, RecordKind, Said, SaysBounds, SaysEvent, SaysType, addition_of, are_order_digits, are_texts, bounds_from, deletion_of, edge_of, event_at, event_of, field_of, is_at_sign, kind_of, moment_inside, moment_of, moment_with, names_edge, order_of, properties_in, props_from, row_of, said_as, said_by, type_said, update_of, with_props}
+use Rattle.graph_model.specs.Said.{OfAddition, OfBounds, OfDeletion, OfType, OfUpdate, RecordKind, Said, SaysBounds, SaysEvent, SaysType, addition_of, are_order_digits, are_texts, bounds_from, deletion_of, edge_of, event_at, event_of, field_of, is_at_sign, kind_of_record, moment_inside, moment_of, moment_with, names_edge, order_of, properties_in, props_from, row_of, said_as, said_by, type_said, update_of, with_props}
 use Rattle.graph_model.specs.TextForm.{is_name}
 use Rattle.graph_model.specs.WholeNumber.{number_of, whole_of}
 use Rattle.graph_model.proofs.PropItems.{KeysRise-put, length-put_prop}
 use Rattle.property_values.proofs.Fields.{WritesProperty-from_read}
-use Rattle.event_rows.specs.Gathering.{gathered, on_some, put_field, put_read}
+use Rattle.event_rows.specs.Gathering.{with_properties, on_some, put_field, put_read}
 use Rattle.event_rows.specs.Sayable.{AreSayableProps, IsSayable, IsSayableProp, IsSayableType, IsSayableWhat, are_bounds}
 use Rattle.event_rows.specs.declared.parsed.Parsed.TheVariants as parsed
-use Rattle.event_rows.proofs.Gathering.{gathered-properties_in}
+use Rattle.event_rows.proofs.Gathering.{with_properties-properties_in}
 use Rattle.event_rows.proofs.Inside.{all_front}
 
 -- ---- properties
@@ -59,17 +59,17 @@ put-sayable props more field h put = by (property_of field) refl put
     by None is e = cc e
     by (Some p) is e = room p is (has_key p.0 props) (nat_le 256 (length props)) refl refl e
 
-gathered-sayable : (fields : List (List ℕ)) (props all : List (List ℕ × Value)) → AreSayableProps props → gathered props fields ≡ Some all → AreSayableProps all
-gathered-sayable [] props all h e = let same : props ≡ all = cc e in subst AreSayableProps same h
-gathered-sayable (field ∷ fields) props all h e = by (put_field props field) refl e (gathered-sayable fields)
+with_properties-sayable : (fields : List (List ℕ)) (props all : List (List ℕ × Value)) → AreSayableProps props → with_properties props fields ≡ Some all → AreSayableProps all
+with_properties-sayable [] props all h e = let same : props ≡ all = cc e in subst AreSayableProps same h
+with_properties-sayable (field ∷ fields) props all h e = by (put_field props field) refl e (with_properties-sayable fields)
   where
-    by : (o : Option (List (List ℕ × Value))) → put_field props field ≡ o → on_some o (λ more. gathered more fields) ≡ Some all
-        → ((qs rs : List (List ℕ × Value)) → AreSayableProps qs → gathered qs fields ≡ Some rs → AreSayableProps rs) → AreSayableProps all
+    by : (o : Option (List (List ℕ × Value))) → put_field props field ≡ o → on_some o (λ more. with_properties more fields) ≡ Some all
+        → ((qs rs : List (List ℕ × Value)) → AreSayableProps qs → with_properties qs fields ≡ Some rs → AreSayableProps rs) → AreSayableProps all
     by None is e rest = cc e
     by (Some more) is e rest = rest more all (put-sayable props more field h is) e
 
 pub properties-sayable : (fields : List (List ℕ)) (props : List (List ℕ × Value)) → properties_in fields ≡ Some props → AreSayableProps props
-properties-sayable fields props read = gathered-sayable fields [] props (tt, omega arith, tt) (gathered-properties_in fields ∙ read)
+properties-sayable fields props read = with_properties-sayable fields [] props (tt, omega arith, tt) (with_properties-properties_in fields ∙ read)
 
 -- ---- moments
 
@@ -197,7 +197,7 @@ as-said (Some kind) bounds fields said e = by (are_texts fields) e
     by false e = cc e
 
 pub row-said : (first : Bool) (bounds : Interval) (fields : List (List ℕ)) (said : Said) → row_of first bounds fields ≡ Ok said → IsSaid bounds said
-row-said first bounds fields said e = as-said (kind_of first fields) bounds fields said e
+row-said first bounds fields said e = as-said (kind_of_record first fields) bounds fields said e
 
 -- bounds are said by record 1 alone
 pub bounds-first : (first : Bool) (bounds : Interval) (fields : List (List ℕ)) (i : Interval) → row_of first bounds fields ≡ Ok (SaysBounds i) → IsTrue first

@@ -19,7 +19,7 @@ use Rattle.graph_model.specs.declared.queries.Each.{Each}
 use Rattle.graph_model.specs.declared.queries.Op.{Op}
 use Rattle.graph_model.specs.declared.queries.Op.TheVariants.{Window, At, Before, After, Layers, ExcludeLayers, Subgraph, ExcludeNodes, EdgesWhere, NodesWhere, Valid, NodeTypes}
 use Rattle.graph_model.specs.Accepting.{EdgeKeys, NodeKeys, distinct, edge_events, key_names, layer_names, layers_in, node_events}
-use Rattle.graph_model.specs.Compare.{live}
+use Rattle.graph_model.specs.Compare.{live_events}
 use Rattle.graph_model.specs.Entity.{about, entities, entity_of, is_about, is_node, names_in, props_of, subject, update_of, what_props}
 use Rattle.graph_model.specs.Interval.{Interval, cut, earliest, is_empty, is_inside, latest}
 use Rattle.graph_model.specs.Keep.{keep, in_layers, outside_layers, among_nodes, apart_from_nodes, among_types, edge_holds, node_holds, is_valid}
@@ -28,9 +28,9 @@ use Rattle.graph_model.specs.Props.{KeysRise, has_key, overwrite, put_prop}
 use Rattle.graph_model.specs.Range.{is_bound, is_moment, op_in_range}
 use Rattle.graph_model.specs.Rising.{Rises}
 use Rattle.graph_model.specs.Stack.{apply, view}
-use Rattle.graph_model.specs.Window.{all_carried, carried, is_early, is_within, last_props, window, window_list}
+use Rattle.graph_model.specs.Window.{all_carried, carried_events, is_early, is_within, last_props, window, window_list}
 use Rattle.graph_model.specs.Windows.{bounded, last_time, window_count, window_end, window_start, windows, windows_from}
-use Rattle.graph_model.specs.World.{IsLawful, World, arrange, event_cmp, named, remake, types_in}
+use Rattle.graph_model.specs.World.{IsLawful, World, arrange, event_cmp, names_node, remake, types_in}
 use Rattle.world_laws.proofs.Carried.{each_live, props-update_of, subject-update_of}
 use Rattle.world_laws.proofs.Counts.{length_filter_le, length_window_list}
 use Rattle.world_laws.proofs.Filters.{each_append, each_flat_map, each_kept, each_two, each_weaker, kept_pass}
@@ -70,7 +70,7 @@ carried_event lo x xs = record { time = lo; order = 0; what = update_of (entity_
 abbrev IsCarried : (Event → Type 0) → Type 0
 IsCarried P = (lo : ℤ) (e : Entity) (x : Event) (xs : List Event) → AllByRecursion (λ y. entity_of y ≡ e) (x ∷ xs) → AllByRecursion P (x ∷ xs) → P (carried_event lo x xs)
 
-each_carried : (P : Event → Type 0) → IsCarried P → (lo : ℤ) (e : Entity) (xs : List Event) → AllByRecursion (λ y. entity_of y ≡ e) xs → AllByRecursion P xs → AllByRecursion P (carried lo xs)
+each_carried : (P : Event → Type 0) → IsCarried P → (lo : ℤ) (e : Entity) (xs : List Event) → AllByRecursion (λ y. entity_of y ≡ e) xs → AllByRecursion P xs → AllByRecursion P (carried_events lo xs)
 each_carried P over lo e [] own h = tt
 each_carried P over lo e (x ∷ xs) own h = (over lo e x xs own h, tt)
 
@@ -83,16 +83,16 @@ each_shown P over Persistent i xs h =
     cond_both (is_empty i) [] (arrange parts) (AllByRecursion P) (λ e. tt)
     (λ e. each_in_order event_cmp P parts
     (each_append P (all_carried i.lo early) (filter (is_within i) xs)
-    (each_flat_map P (λ b. carried i.lo (live (about b early)))
-    (λ b. each_carried P over i.lo b (live (about b early))
+    (each_flat_map P (λ b. carried_events i.lo (live_events (about b early)))
+    (λ b. each_carried P over i.lo b (live_events (about b early))
     (each_live (λ x. entity_of x ≡ b) (about b early) (each_weaker (λ x. is_about b x ≡ true) (λ x. entity_of x ≡ b) (λ x p. sym (same_entity-exact b (entity_of x) p)) (about b early) (kept_pass (is_about b) early)))
     (each_live P (about b early) (each_kept P (is_about b) early (each_kept P (is_early i) xs h))))
     (entities early))
     (each_kept P (is_within i) xs h)))
 
 -- the names and keys of a carried event are those of events
-IsOf-carried : (ws : List Event) → IsCarried (IsOf ws)
-IsOf-carried ws lo e x xs own h =
+IsOf-carried_events : (ws : List Event) → IsCarried (IsOf ws)
+IsOf-carried_events ws lo e x xs own h =
     let props = last_props (x ∷ xs) in
     let same : entity_of (carried_event lo x xs) ≡ entity_of x = subject-update_of (entity_of x) props in
     let kept : props_of (carried_event lo x xs) ≡ props = props-update_of (entity_of x) props in
@@ -119,15 +119,15 @@ record HasSayable (x : Event) : Type 0 where
   pub props : AllByRecursion IsSayableProp (props_of x)
 
 HasSayable-from : (bounds : Interval) (x : Event) → IsSayable bounds x → HasSayable x
-HasSayable-from bounds x h = let (named, props) = parts x.what h.3 in record { order = h.2; entity = named; props = props }
+HasSayable-from bounds x h = let (names_node, props) = parts x.what h.3 in record { order = h.2; entity = names_node; props = props }
   where
     parts : (w : What) → IsSayableWhat w → IsTrue (is_sayable (subject w)) × AllByRecursion IsSayableProp (what_props w)
     parts (what.Node name props) k = (k.0, k.1.2)
     parts (what.Add edge props) k = (k.0, k.1.2)
     parts (what.Delete edge) k = (k, tt)
 
-HasSayable-carried : IsCarried HasSayable
-HasSayable-carried lo e x xs own h =
+HasSayable-carried_events : IsCarried HasSayable
+HasSayable-carried_events lo e x xs own h =
     let props = last_props (x ∷ xs) in
     record {
       order = omega arith;
@@ -136,9 +136,9 @@ HasSayable-carried lo e x xs own h =
     }
 
 sayable_what : (w : What) → IsTrue (is_sayable (subject w)) → KeysRise (what_props w) → length (what_props w) ≤ 256 → AllByRecursion IsSayableProp (what_props w) → IsSayableWhat w
-sayable_what (what.Node name props) named rise few each = (named, (rise, few, each))
-sayable_what (what.Add edge props) named rise few each = (named, (rise, few, each))
-sayable_what (what.Delete edge) named rise few each = named
+sayable_what (what.Node name props) names_node rise few each = (names_node, (rise, few, each))
+sayable_what (what.Add edge props) names_node rise few each = (names_node, (rise, few, each))
+sayable_what (what.Delete edge) names_node rise few each = names_node
 
 -- ---- how many properties an event has
 
@@ -217,9 +217,9 @@ events_sayable w bounds (x ∷ xs) within is inside rise own sayable = (
 
 remade : (w : World) (bounds : Interval) (xs : List Event) → IsPrintable w → IsLawful (remake w bounds xs) → IsTrue (are_bounds bounds) → AreShown w xs → IsPrintable (remake w bounds xs)
 remade w bounds xs h lawful is shown = record {
-  storable = record { lawful = lawful; limits = within_fewer w.events w.types xs (types_in xs w.types) h.storable.limits shown.few shown.own (each_kept (IsTypeOf w.types) (λ (t : List ℕ × List ℕ). named xs t.0) w.types (each_own_type w.types)) };
+  storable = record { lawful = lawful; limits = within_fewer w.events w.types xs (types_in xs w.types) h.storable.limits shown.few shown.own (each_kept (IsTypeOf w.types) (λ (t : List ℕ × List ℕ). names_node xs t.0) w.types (each_own_type w.types)) };
   bounds = is;
-  types = each_kept IsSayableType (λ (t : List ℕ × List ℕ). named xs t.0) w.types h.types;
+  types = each_kept IsSayableType (λ (t : List ℕ × List ℕ). names_node xs t.0) w.types h.types;
   events = events_sayable w bounds xs h.storable.limits is (each_passes (λ x. is_inside bounds x.time) xs lawful.inside) lawful.rising shown.own shown.sayable;
 }
 
@@ -235,7 +235,7 @@ pub window_printable : (w : World) (a b : ℤ) → a ≤ℤ latest → IsPrintab
 window_printable w a b begins h =
     let i = cut w.bounds a b in
     remade w i (window_list w.model i w.events) h (IsLawful-window w a b h.storable.lawful) (cut_bounds w.bounds a b h.bounds begins)
-    (record { few = length_window_list w.model i w.events; own = each_shown (IsOf w.events) (IsOf-carried w.events) w.model i w.events (each_own w.events); sayable = each_shown HasSayable HasSayable-carried w.model i w.events (all_sayable w h) })
+    (record { few = length_window_list w.model i w.events; own = each_shown (IsOf w.events) (IsOf-carried_events w.events) w.model i w.events (each_own w.events); sayable = each_shown HasSayable HasSayable-carried_events w.model i w.events (all_sayable w h) })
 
 -- ---- views, stacks and windows
 

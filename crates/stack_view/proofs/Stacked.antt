@@ -10,7 +10,7 @@ use Rattle.graph_model.specs.World.{World}
 use Rattle.graph_model.specs.Window.{window}
 use Rattle.graph_model.specs.Keep.{keep}
 use Rattle.graph_model.specs.Searches.{Searches, ViewKind, searches, searches_over, searches_with}
-use Rattle.graph_store.specs.Parts.{parts_at}
+use Rattle.graph_store.specs.EdgeParts.{parts_at}
 use Rattle.graph_store.specs.Contents.{Contents, base_of}
 use Rattle.view_trait.specs.declared.ready_ops.ReadyOp.{ReadyOp}
 use Rattle.view_trait.specs.declared.ready_ops.ReadyOp.TheVariants.{Window, Layers, Subgraph, ExcludeNodes, EdgesWhere, NodesWhere, Valid}

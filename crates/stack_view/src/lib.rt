@@ -1,12 +1,12 @@
 //! Lists of views, applied one after another.
 #![tactic(auto)]
 
+mod bounded_spans;
 mod edges;
 mod nodes;
-mod parts;
 mod view;
 
-pub use edges::edge_part;
-pub use nodes::node_part;
-pub use parts::{Part, bounds_below};
+pub use bounded_spans::{BoundedSpan, bounds_below};
+pub use edges::edge_span_below;
+pub use nodes::node_span_below;
 pub use view::StackView;

@@ -6,9 +6,9 @@ ghost use Rattle.view_trait.specs.Meaning.{IsShown};
 ghost use Rattle.view_trait.specs.Ready.{in_range};
 ghost use Rattle.view_trait.proofs.OneProof.{IsShown-prop};
 
-use crate::edges::edge_part;
-use crate::nodes::node_part;
-use crate::parts::bounds_below;
+use crate::bounded_spans::bounds_below;
+use crate::edges::edge_span_below;
+use crate::nodes::node_span_below;
 use entity_tests::EntityTest;
 use graph_model::Bounds;
 use graph_store::{EdgeId, NodeId, Store};
@@ -69,10 +69,10 @@ impl View for StackView<'_> {
     }
 
     fn node_span<L: Ledger>(&self, n: NodeId, steps: &mut Steps<L>) -> Span {
-        node_part(self.store, self.ops, self.ops.len(), n, steps).span
+        node_span_below(self.store, self.ops, self.ops.len(), n, steps).span
     }
 
     fn edge_span<L: Ledger>(&self, e: EdgeId, steps: &mut Steps<L>) -> Span {
-        edge_part(self.store, self.ops, self.ops.len(), e, steps).span
+        edge_span_below(self.store, self.ops, self.ops.len(), e, steps).span
     }
 }

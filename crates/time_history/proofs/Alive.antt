@@ -19,20 +19,20 @@ use Rattle.graph_model.specs.declared.events.Model.{Model}
 use Rattle.graph_model.specs.declared.events.Model.TheVariants.{Event as Instants, Persistent}
 use Rattle.graph_model.specs.Interval.{Interval, is_inside}
 use Rattle.graph_model.specs.Entity.{is_deletion, is_addition, adds, deletes, subject, entity_of, update_of}
-use Rattle.graph_model.specs.Compare.{live}
-use Rattle.graph_model.specs.Window.{carried, last_props}
+use Rattle.graph_model.specs.Compare.{live_events}
+use Rattle.graph_model.specs.Window.{carried_events, last_props}
 use Rattle.graph_model.specs.Presence.{ends_in_addition, lives_at}
 use Rattle.world_laws.proofs.Carried.{each_live}
 use Rattle.world_laws.proofs.Filters.{filter_all, filter_none, each_weaker}
 use Rattle.world_laws.proofs.Times.{le_test, not_le_test, inside_lo}
-use Rattle.world_laws.proofs.Live.{live-append}
+use Rattle.world_laws.proofs.Live.{live_events-append}
 use Rattle.time_history.specs.declared.updates.Kind.{Kind}
 use Rattle.time_history.specs.declared.updates.Kind.TheVariants.{Node as OfNode, Add, Delete}
 use Rattle.time_history.specs.declared.updates.Update.{Update}
 use Rattle.time_history.specs.declared.span.Span.{Span}
 use Rattle.time_history.specs.Kinds.{is_delete, NoDeletion}
 use Rattle.time_history.specs.Updates.{update_at, no_update, TimesRise}
-use Rattle.time_history.specs.Told.{event_told, events_told, what_told, named, Fits}
+use Rattle.time_history.specs.Telling.{event_told, events_told, what_told, with_key_names, Fits}
 use Rattle.time_history.specs.Asked.{HappensAt, IsAliveAt}
 use Rattle.time_history.specs.Spans.{carries, IsSpan, IsTaken, IsAllowed, spelled}
 use Rattle.time_history.proofs.Segments.{slice_split, slice_nothing, slice_map, each_in_slice, each_in_map}
@@ -113,16 +113,16 @@ module _ (edge : EdgeName) (names : ℕ → List ℕ) (us : List Update) where
       let end = s.end in let low = h.1 in let high = h.2 in
       let there : h.0 < length us = omega arith in
       let kept : is_delete (update_at us h.0).kind ≡ false = none h.0 no_update there in
-      sym (ap (λ b. list_any (λ x. is_addition x && int_eq x.time m) (cond b (carried bounds.lo (live (take span.from events))) [] ++ slice_range events span.from span.to)) c
+      sym (ap (λ b. list_any (λ x. is_addition x && int_eq x.time m) (cond b (carried_events bounds.lo (live_events (take span.from events))) [] ++ slice_range events span.from span.to)) c
       ∙ any_at (λ x. is_addition x && int_eq x.time m) span.from span.to h.0 end low high
-      (ap (λ b. b && int_eq (update_at us h.0).time m) (adds-told edge (update_at us h.0).kind (named names (update_at us h.0).props) ∙ ap not kept) ∙ int_eq-refl (update_at us h.0).time m h.3))
+      (ap (λ b. b && int_eq (update_at us h.0).time m) (adds-told edge (update_at us h.0).kind (with_key_names names (update_at us h.0).props) ∙ ap not kept) ∙ int_eq-refl (update_at us h.0).time m h.3))
   alive_instants span bounds m false s none c h =
       let events = events_told (Edge edge) names us in
-      sym (ap (λ b. list_any (λ x. is_addition x && int_eq x.time m) (cond b (carried bounds.lo (live (take span.from events))) [] ++ slice_range events span.from span.to)) c
+      sym (ap (λ b. list_any (λ x. is_addition x && int_eq x.time m) (cond b (carried_events bounds.lo (live_events (take span.from events))) [] ++ slice_range events span.from span.to)) c
       ∙ none_at (λ x. is_addition x && int_eq x.time m) span.from span.to s.end (λ k a b. ap (λ t. is_addition (event_told (Edge edge) names (update_at us k)) && t) (int_eq-apart (update_at us k).time m (h k a b)) ∙ and_false (is_addition (event_told (Edge edge) names (update_at us k)))))
 
   -- what is carried for an edge is an addition
-  carried_adds : (lo : ℤ) (xs : List Event) (x : Event) → AllByRecursion (λ y. entity_of y ≡ Edge edge) (xs ++ x ∷ []) → ends_in_addition (carried lo (xs ++ x ∷ [])) ≡ true
+  carried_adds : (lo : ℤ) (xs : List Event) (x : Event) → AllByRecursion (λ y. entity_of y ≡ Edge edge) (xs ++ x ∷ []) → ends_in_addition (carried_events lo (xs ++ x ∷ [])) ≡ true
   carried_adds lo [] x h = adds-edge (entity_of x) (last_props (x ∷ [])) h.0
   carried_adds lo (y ∷ xs) x h = adds-edge (entity_of y) (last_props (y ∷ (xs ++ x ∷ []))) h.0
 
@@ -133,13 +133,13 @@ module _ (edge : EdgeName) (names : ℕ → List ℕ) (us : List Update) where
 
   all_told : (vs : List Update) → AllByRecursion (λ y. entity_of y ≡ Edge edge) (events_told (Edge edge) names vs)
   all_told [] = tt
-  all_told (v ∷ vs) = (told_entity v.kind (named names v.props), all_told vs)
+  all_told (v ∷ vs) = (told_entity v.kind (with_key_names names v.props), all_told vs)
 
   none_or_some : (n : ℕ) → (n ≡ 0) ⊎ (0 < n)
   none_or_some n = grind arith
 
   -- where a span is carried, what comes before it ends with an addition
-  pub carried_alive : (span : Span) (lo : ℤ) → IsSpan us span → Fits (Edge edge) us → (c : Bool) → c ≡ span.carried → ends_in_addition (cond c (carried lo (live (take span.from (events_told (Edge edge) names us)))) []) ≡ c
+  pub carried_alive : (span : Span) (lo : ℤ) → IsSpan us span → Fits (Edge edge) us → (c : Bool) → c ≡ span.carried → ends_in_addition (cond c (carried_events lo (live_events (take span.from (events_told (Edge edge) names us)))) []) ≡ c
   carried_alive span lo s fit false e = refl
   carried_alive span lo s fit true e =
       let h : carries Persistent us span.from ≡ true = s.carried (sym e) in
@@ -154,13 +154,13 @@ module _ (edge : EdgeName) (names : ℕ → List ℕ) (us : List Update) where
       let next : span.from ≡ span.from - 1 + 1 = omega arith in
       let x : Event = get_or events (span.from - 1) last in
       let is : x ≡ event_told (Edge edge) names (update_at us (span.from - 1)) = get_or-map (event_told (Edge edge) names) us (span.from - 1) no_update last there in
-      let undeleted : is_deletion x ≡ false = ap is_deletion is ∙ (deletes-edge (update_at us (span.from - 1)).kind (named names (update_at us (span.from - 1)).props) ∙ kept) in
+      let undeleted : is_deletion x ≡ false = ap is_deletion is ∙ (deletes-edge (update_at us (span.from - 1)).kind (with_key_names names (update_at us (span.from - 1)).props) ∙ kept) in
       let front = take (span.from - 1) events in
       let whole : take span.from events ≡ front ++ x ∷ [] = ap (λ n. take n events) next ∙ take_more events (span.from - 1) last told in
-      let still : live (front ++ x ∷ []) ≡ live front ++ x ∷ [] = live-append front (x ∷ []) ∙ cond-false (list_any is_deletion (x ∷ [])) _ _ (ap (λ b. b || false) undeleted) in
-      ap (λ ys. ends_in_addition (carried lo (live ys))) whole
-      ∙ (ap (λ ys. ends_in_addition (carried lo ys)) still
-      ∙ carried_adds lo (live front) x (subst (AllByRecursion (λ y. entity_of y ≡ Edge edge)) still (each_live (λ y. entity_of y ≡ Edge edge) (front ++ x ∷ []) (subst (AllByRecursion (λ y. entity_of y ≡ Edge edge)) (whole_told span.from ∙ whole) (all_told (take span.from us))))))
+      let still : live_events (front ++ x ∷ []) ≡ live_events front ++ x ∷ [] = live_events-append front (x ∷ []) ∙ cond-false (list_any is_deletion (x ∷ [])) _ _ (ap (λ b. b || false) undeleted) in
+      ap (λ ys. ends_in_addition (carried_events lo (live_events ys))) whole
+      ∙ (ap (λ ys. ends_in_addition (carried_events lo ys)) still
+      ∙ carried_adds lo (live_events front) x (subst (AllByRecursion (λ y. entity_of y ≡ Edge edge)) still (each_live (λ y. entity_of y ≡ Edge edge) (front ++ x ∷ []) (subst (AllByRecursion (λ y. entity_of y ≡ Edge edge)) (whole_told span.from ∙ whole) (all_told (take span.from us))))))
     where
       and_first : (a b : Bool) → (a && b) ≡ true → a ≡ true
       and_first true b h = refl
@@ -187,48 +187,48 @@ module _ (edge : EdgeName) (names : ℕ → List ℕ) (us : List Update) where
     timely x = int_le x.time m
 
     cs : List Event
-    cs = cond span.carried (carried bounds.lo (live (take span.from (events_told (Edge edge) names us)))) []
+    cs = cond span.carried (carried_events bounds.lo (live_events (take span.from (events_told (Edge edge) names us)))) []
 
     each_in_time : (P : ℤ → Type 0) (a b : ℕ) → b ≤ length us → ((k : ℕ) → a ≤ k → k < b → P (update_at us k).time) → AllByRecursion (λ (x : Event). P x.time) (slice_range (events_told (Edge edge) names us) a b)
     each_in_time P a b le h = subst (AllByRecursion (λ (x : Event). P x.time)) (sym (slice_map (event_told (Edge edge) names) us a b)) (each_in_map (event_told (Edge edge) names) (λ (u : Update). P u.time) (λ (x : Event). P x.time) (λ x p. p) (slice_range us a b) (each_in_slice (λ (u : Update). P u.time) us a b le h))
 
     -- what a span spells up to a moment
     up_to : filter (λ x. int_le x.time m) (spelled (Edge edge) names us span bounds.lo)
-        ≡ cond span.carried (carried bounds.lo (live (take span.from (events_told (Edge edge) names us)))) [] ++ slice_range (events_told (Edge edge) names us) span.from at
+        ≡ cond span.carried (carried_events bounds.lo (live_events (take span.from (events_told (Edge edge) names us)))) [] ++ slice_range (events_told (Edge edge) names us) span.from at
     up_to =
         let p : Event → Bool = λ x. int_le x.time m in
         let events = events_told (Edge edge) names us in
-        let c = cond span.carried (carried bounds.lo (live (take span.from events))) [] in
+        let c = cond span.carried (carried_events bounds.lo (live_events (take span.from events))) [] in
         let end = s.end in
         let lo = inside_lo bounds m inside in
-        let kept : filter p c ≡ c = filter_all p c (begins span.carried (live (take span.from events)) lo) in
+        let kept : filter p c ≡ c = filter_all p c (begins span.carried (live_events (take span.from events)) lo) in
         let early : filter p (slice_range events span.from at) ≡ slice_range events span.from at = filter_all p (slice_range events span.from at) (each_weaker (λ x. x.time ≤ℤ m) (λ x. p x ≡ true) (λ x h. le_test x.time m h) (slice_range events span.from at) (each_in_time (λ t. t ≤ℤ m) span.from at (omega arith) before)) in
         let late : filter p (slice_range events at span.to) ≡ [] = filter_none p (slice_range events at span.to) (each_weaker (λ x. m <ℤ x.time) (λ x. p x ≡ false) (λ x h. not_le_test x.time m h) (slice_range events at span.to) (each_in_time (λ t. m <ℤ t) at span.to end after)) in
         filter-append p c (slice_range events span.from span.to)
         ∙ (ap (λ ys. ys ++ filter p (slice_range events span.from span.to)) kept
         ∙ ap (λ ys. c ++ ys) (ap (filter p) (slice_split events span.from at span.to from to) ∙ (filter-append p (slice_range events span.from at) (slice_range events at span.to) ∙ (ap (λ ys. ys ++ filter p (slice_range events at span.to)) early ∙ (ap (λ ys. slice_range events span.from at ++ ys) late ∙ append-nil (slice_range events span.from at))))))
       where
-        begins : (c : Bool) (xs : List Event) → bounds.lo ≤ℤ m → AllByRecursion (λ x. int_le x.time m ≡ true) (cond c (carried bounds.lo xs) [])
+        begins : (c : Bool) (xs : List Event) → bounds.lo ≤ℤ m → AllByRecursion (λ x. int_le x.time m ≡ true) (cond c (carried_events bounds.lo xs) [])
         begins false xs lo = tt
-        begins true xs lo = each_weaker (λ x. x.time ≡ bounds.lo) (λ x. int_le x.time m ≡ true) (λ x e. le_test x.time m (subst (λ z. z ≤ℤ m) (sym e) lo)) (carried bounds.lo xs) (carried_times bounds.lo xs)
+        begins true xs lo = each_weaker (λ x. x.time ≡ bounds.lo) (λ x. int_le x.time m ≡ true) (λ x e. le_test x.time m (subst (λ z. z ≤ℤ m) (sym e) lo)) (carried_events bounds.lo xs) (carried_times bounds.lo xs)
 
     -- where the span has an update up to the moment, the last one says whether the edge is alive
     pub alive_after : span.from < at → not (is_delete (update_at us (at - 1)).kind) ≡ lives_at Persistent bounds (spelled (Edge edge) names us span bounds.lo) m
     alive_after lt =
         let events = events_told (Edge edge) names us in
-        let c = cond span.carried (carried bounds.lo (live (take span.from events))) [] in
+        let c = cond span.carried (carried_events bounds.lo (live_events (take span.from events))) [] in
         let end = s.end in
         let next : at ≡ at - 1 + 1 = omega arith in
         let x = event_told (Edge edge) names (update_at us (at - 1)) in
         sym (ap (λ b. b && ends_in_addition (filter (λ x. int_le x.time m) (spelled (Edge edge) names us span bounds.lo))) inside
         ∙ (ap ends_in_addition (up_to ∙ (ap (λ n. c ++ slice_range events span.from n) next ∙ (ap (λ ys. c ++ ys) (slice_push span.from (at - 1) (omega arith) (omega arith)) ∙ sym (append_assoc c (slice_range events span.from (at - 1)) (x ∷ [])))))
-        ∙ (ends-push (c ++ slice_range events span.from (at - 1)) x ∙ adds-told edge (update_at us (at - 1)).kind (named names (update_at us (at - 1)).props))))
+        ∙ (ends-push (c ++ slice_range events span.from (at - 1)) x ∙ adds-told edge (update_at us (at - 1)).kind (with_key_names names (update_at us (at - 1)).props))))
 
     -- where it has none, the edge is alive where the span is carried
     pub alive_carried : at ≤ span.from → Fits (Edge edge) us → span.carried ≡ lives_at Persistent bounds (spelled (Edge edge) names us span bounds.lo) m
     alive_carried le fit =
         let events = events_told (Edge edge) names us in
-        let c = cond span.carried (carried bounds.lo (live (take span.from events))) [] in
+        let c = cond span.carried (carried_events bounds.lo (live_events (take span.from events))) [] in
         let same : at ≡ span.from = omega arith in
         sym (ap (λ b. b && ends_in_addition (filter (λ x. int_le x.time m) (spelled (Edge edge) names us span bounds.lo))) inside
         ∙ (ap ends_in_addition (up_to ∙ (ap (λ n. c ++ slice_range events span.from n) same ∙ (ap (λ ys. c ++ ys) (slice_nothing events span.from) ∙ append-nil c)))

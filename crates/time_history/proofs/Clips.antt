@@ -13,9 +13,9 @@ use Rattle.graph_model.specs.declared.events.Model.{Model}
 use Rattle.graph_model.specs.declared.events.Model.TheVariants.{Event as Instants, Persistent}
 use Rattle.graph_model.specs.Interval.{Interval, is_empty}
 use Rattle.graph_model.specs.Entity.{is_deletion, deletes}
-use Rattle.graph_model.specs.Compare.{live}
-use Rattle.graph_model.specs.Window.{carried, clip_list}
-use Rattle.world_laws.proofs.Live.{live-append}
+use Rattle.graph_model.specs.Compare.{live_events}
+use Rattle.graph_model.specs.Window.{carried_events, clip_list}
+use Rattle.world_laws.proofs.Live.{live_events-append}
 use Rattle.time_history.specs.declared.updates.Kind.{Kind}
 use Rattle.time_history.specs.declared.updates.Kind.TheVariants.{Node as OfNode, Add, Delete}
 use Rattle.time_history.specs.declared.updates.Update.{Update}
@@ -23,7 +23,7 @@ use Rattle.time_history.specs.declared.span.Span.{Span}
 use Rattle.time_history.specs.NoEvent.{HasNoEvent}
 use Rattle.time_history.specs.Kinds.{is_delete}
 use Rattle.time_history.specs.Updates.{update_at, no_update}
-use Rattle.time_history.specs.Told.{event_told, events_told, what_told, named, fits, Fits}
+use Rattle.time_history.specs.Telling.{event_told, events_told, what_told, with_key_names, fits, Fits}
 use Rattle.time_history.specs.Spans.{carries, IsSpan, IsCut, spelled, IsClipped}
 use Rattle.time_history.proofs.Segments.{slice_split, take_split, slice_nothing, slice_map, each_in_slice, each_in_map}
 use Rattle.time_history.proofs.Parts.{none_within, AreParts, instants_clip, persistent_clip}
@@ -38,10 +38,10 @@ deletes-told (Edge edge) Add ps h = refl
 deletes-told (Edge edge) Delete ps h = refl
 
 -- nothing is live after a deletion
-live_after_deletion : (xs : List Event) (x : Event) → is_deletion x ≡ true → live (xs ++ x ∷ []) ≡ []
+live_after_deletion : (xs : List Event) (x : Event) → is_deletion x ≡ true → live_events (xs ++ x ∷ []) ≡ []
 live_after_deletion xs x h =
     let any : list_any is_deletion (x ∷ []) ≡ true = only (is_deletion x) h in
-    live-append xs (x ∷ []) ∙ (cond-true (list_any is_deletion (x ∷ [])) _ _ any ∙ cond-true (list_any is_deletion (x ∷ [])) _ _ any)
+    live_events-append xs (x ∷ []) ∙ (cond-true (list_any is_deletion (x ∷ [])) _ _ any ∙ cond-true (list_any is_deletion (x ∷ [])) _ _ any)
   where
     only : (b : Bool) → b ≡ true → (b || false) ≡ true
     only true h = refl
@@ -56,9 +56,9 @@ second_false false h = cc
 
 module _ (entity : Entity) (names : ℕ → List ℕ) (us : List Update) (fit : Fits entity us) where
   -- where the last update before a place is a deletion, or there is none, nothing is carried over it
-  nothing_live : (from : ℕ) → from ≤ length us → carries Persistent us from ≡ false → live (take from (events_told entity names us)) ≡ []
+  nothing_live : (from : ℕ) → from ≤ length us → carries Persistent us from ≡ false → live_events (take from (events_told entity names us)) ≡ []
   nothing_live from le h = elim (none_or_some from) [
-    | inl e ↦ ap (λ n. live (take n (events_told entity names us))) e
+    | inl e ↦ ap (λ n. live_events (take n (events_told entity names us))) e
     | inr lt ↦
         let some : nat_lt 0 from ≡ true = grind (arith, nat_tests) in
         let deleted : is_delete (update_at us (from - 1)).kind ≡ true = second_false (is_delete (update_at us (from - 1)).kind) (ap (λ b. b && not (is_delete (update_at us (from - 1)).kind)) (sym some) ∙ h) in
@@ -68,20 +68,20 @@ module _ (entity : Entity) (names : ℕ → List ℕ) (us : List Update) (fit : 
         let next : from ≡ from - 1 + 1 = omega arith in
         let x : Event = get_or (events_told entity names us) (from - 1) last in
         let is : x ≡ event_told entity names (update_at us (from - 1)) = get_or-map (event_told entity names) us (from - 1) no_update last there in
-        let deletion : is_deletion x ≡ true = ap is_deletion is ∙ (deletes-told entity (update_at us (from - 1)).kind (named names (update_at us (from - 1)).props) (fit (from - 1) no_update there) ∙ deleted) in
-        ap (λ n. live (take n (events_told entity names us))) next ∙ (ap live (take_more (events_told entity names us) (from - 1) last told) ∙ live_after_deletion (take (from - 1) (events_told entity names us)) x deletion)
+        let deletion : is_deletion x ≡ true = ap is_deletion is ∙ (deletes-told entity (update_at us (from - 1)).kind (with_key_names names (update_at us (from - 1)).props) (fit (from - 1) no_update there) ∙ deleted) in
+        ap (λ n. live_events (take n (events_told entity names us))) next ∙ (ap live_events (take_more (events_told entity names us) (from - 1) last told) ∙ live_after_deletion (take (from - 1) (events_told entity names us)) x deletion)
   ]
 
   -- what a span carries
   carried_if : (from : ℕ) → from ≤ length us → (c : Bool) → c ≡ carries Persistent us from → (lo : ℤ)
-      → cond c (carried lo (live (take from (events_told entity names us)))) [] ≡ carried lo (live (take from (events_told entity names us)))
+      → cond c (carried_events lo (live_events (take from (events_told entity names us)))) [] ≡ carried_events lo (live_events (take from (events_told entity names us)))
   carried_if from le true h lo = refl
-  carried_if from le false h lo = sym (ap (carried lo) (nothing_live from le (sym h)))
+  carried_if from le false h lo = sym (ap (carried_events lo) (nothing_live from le (sym h)))
 
   pub bare_spelled : (span : Span) (lo : ℤ) → HasNoEvent span → spelled entity names us span lo ≡ []
   bare_spelled span lo h =
       let events = events_told entity names us in
-      ap (λ c. cond c (carried lo (live (take span.from events))) [] ++ slice_range events span.from span.to) h.1
+      ap (λ c. cond c (carried_events lo (live_events (take span.from events))) [] ++ slice_range events span.from span.to) h.1
       ∙ (ap (λ n. slice_range events span.from n) (sym h.0) ∙ slice_nothing events span.from)
 
   module _ (bounds cut : Interval) (span r : Span) (is_span : IsSpan us span) (from : span.from ≤ r.from) (order : r.from ≤ r.to) (to : r.to ≤ span.to)
@@ -123,8 +123,8 @@ module _ (entity : Entity) (names : ℕ → List ℕ) (us : List Update) (fit : 
     clipped_instants : span.carried ≡ false → r.carried ≡ false → spelled entity names us r cut.lo ≡ clip_list Instants cut (spelled entity names us span bounds.lo)
     clipped_instants p q =
         let events = events_told entity names us in
-        ap (λ c. cond c (carried cut.lo (live (take r.from events))) [] ++ slice_range events r.from r.to) q
-        ∙ sym (ap (λ c. clip_list Instants cut (cond c (carried bounds.lo (live (take span.from events))) [] ++ slice_range events span.from span.to)) p
+        ap (λ c. cond c (carried_events cut.lo (live_events (take r.from events))) [] ++ slice_range events r.from r.to) q
+        ∙ sym (ap (λ c. clip_list Instants cut (cond c (carried_events bounds.lo (live_events (take span.from events))) [] ++ slice_range events span.from span.to)) p
         ∙ (ap (clip_list Instants cut) in_parts ∙ instants_clip bounds cut _ _ _ parts some later))
 
     clipped_persistent : span.carried ≡ carries Persistent us span.from → r.carried ≡ carries Persistent us r.from → spelled entity names us r cut.lo ≡ clip_list Persistent cut (spelled entity names us span bounds.lo)
@@ -132,9 +132,9 @@ module _ (entity : Entity) (names : ℕ → List ℕ) (us : List Update) (fit : 
         let events = events_told entity names us in
         let end = is_span.end in
         ap (λ ys. ys ++ slice_range events r.from r.to) (carried_if r.from (omega arith) r.carried q cut.lo)
-        ∙ (ap (λ ys. carried cut.lo (live ys) ++ slice_range events r.from r.to) (take_split events span.from r.from from)
+        ∙ (ap (λ ys. carried_events cut.lo (live_events ys) ++ slice_range events r.from r.to) (take_split events span.from r.from from)
         ∙ sym (ap (λ ys. clip_list Persistent cut (ys ++ slice_range events span.from span.to)) (carried_if span.from (omega arith) span.carried p bounds.lo)
-        ∙ (ap (λ ys. clip_list Persistent cut (carried bounds.lo (live (take span.from events)) ++ ys)) in_parts
+        ∙ (ap (λ ys. clip_list Persistent cut (carried_events bounds.lo (live_events (take span.from events)) ++ ys)) in_parts
         ∙ persistent_clip bounds cut _ _ _ parts some later (take span.from events))))
 
     clipped_is : (model : Model) → span.carried ≡ carries model us span.from → r.carried ≡ carries model us r.from → spelled entity names us r cut.lo ≡ clip_list model cut (spelled entity names us span bounds.lo)

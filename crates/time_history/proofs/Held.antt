@@ -4,7 +4,7 @@ use Rattle.std.specs.List.{insert, All, AllByRecursion}
 use Rattle.std.proofs.lemmas.List.Edits.{length-insert}
 use Rattle.time_column.specs.Stamp.{Stamp, IsRising}
 use Rattle.time_history.specs.declared.updates.Update.{Update}
-use Rattle.time_history.specs.KeyValues.{KeysRise}
+use Rattle.time_history.specs.KeyValues.{KeyNumbersRise}
 use Rattle.time_history.specs.Updates.{ValuesRise}
 use Rattle.time_history.specs.History.{Change, updates_of, IsSound}
 
@@ -24,16 +24,16 @@ pub all_from_each : {X : Type 0} (P : X → Type 0) (xs : List X) → AllByRecur
 all_from_each P xs h i d lt = each_at P xs i d h lt
 
 -- the keys of each update rise
-rise_in_updates : (ss : List Stamp) (cs : List Change) → length ss ≡ length cs → AllByRecursion (λ (c : Change). KeysRise c.1) cs → AllByRecursion (λ (u : Update). KeysRise u.props) (updates_of ss cs)
+rise_in_updates : (ss : List Stamp) (cs : List Change) → length ss ≡ length cs → AllByRecursion (λ (c : Change). KeyNumbersRise c.1) cs → AllByRecursion (λ (u : Update). KeyNumbersRise u.props) (updates_of ss cs)
 rise_in_updates [] cs e h = tt
 rise_in_updates (s ∷ ss) [] e h = tt
 rise_in_updates (s ∷ ss) (c ∷ cs) e h = (h.0, rise_in_updates ss cs (omega arith) h.1)
 
 pub sound_values : (ss : List Stamp) (cs : List Change) → IsSound ss cs → ValuesRise (updates_of ss cs)
-sound_values ss cs h = all_from_each (λ u. KeysRise u.props) (updates_of ss cs) (rise_in_updates ss cs h.lengths h.rise)
+sound_values ss cs h = all_from_each (λ u. KeyNumbersRise u.props) (updates_of ss cs) (rise_in_updates ss cs h.lengths h.rise)
 
 -- one more update
-pub sound_insert : (ss ts : List Stamp) (cs : List Change) (s : Stamp) (r : ℕ) (c : Change) → IsSound ss cs → r ≤ length ss → length cs + 1 < 2 ^ 32 → ts ≡ insert ss r s → IsRising ts → KeysRise c.1 → IsSound ts (insert cs r c)
+pub sound_insert : (ss ts : List Stamp) (cs : List Change) (s : Stamp) (r : ℕ) (c : Change) → IsSound ss cs → r ≤ length ss → length cs + 1 < 2 ^ 32 → ts ≡ insert ss r s → IsRising ts → KeyNumbersRise c.1 → IsSound ts (insert cs r c)
 sound_insert ss ts cs s r c h le fit e rise keys =
     let m = length-insert ss r s le in
     let n = length-insert cs r c (omega (arith, h.lengths)) in
@@ -41,7 +41,7 @@ sound_insert ss ts cs s r c h le fit e rise keys =
       lengths = omega (arith, ap length e, h.lengths);
       fits = omega arith;
       rising = rise;
-      rise = each_insert (λ (d : Change). KeysRise d.1) cs r c (omega (arith, h.lengths)) h.rise keys;
+      rise = each_insert (λ (d : Change). KeyNumbersRise d.1) cs r c (omega (arith, h.lengths)) h.rise keys;
     }
 
 pub sound_nothing : IsSound [] []

@@ -16,7 +16,7 @@ use Rattle.world_laws.proofs.Times.{le_from_test, gt_from_test, ge_from_test, lt
 use Rattle.time_history.specs.declared.updates.Update.{Update}
 use Rattle.time_history.specs.declared.span.Span.{Span}
 use Rattle.time_history.specs.Kinds.{NoDeletion, is_delete}
-use Rattle.time_history.specs.Told.{Fits}
+use Rattle.time_history.specs.Telling.{Fits}
 use Rattle.time_history.specs.Updates.{update_at, TimesRise}
 use Rattle.time_history.specs.Spans.{IsSpan, IsCut, IsTaken, IsAllowed, spelled}
 use Rattle.time_history.specs.NoEvent.{HasNoEvent}

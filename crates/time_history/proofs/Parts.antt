@@ -8,8 +8,8 @@ use Rattle.std.proofs.lemmas.List.Elements.{filter-append}
 use Rattle.graph_model.specs.declared.events.Event.{Event}
 use Rattle.graph_model.specs.declared.events.Model.TheVariants.{Event as Instants, Persistent}
 use Rattle.graph_model.specs.Interval.{Interval, is_empty}
-use Rattle.graph_model.specs.Compare.{live}
-use Rattle.graph_model.specs.Window.{carried, is_early, is_within, clip_list}
+use Rattle.graph_model.specs.Compare.{live_events}
+use Rattle.graph_model.specs.Window.{carried_events, is_early, is_within, clip_list}
 use Rattle.world_laws.proofs.Filters.{filter_all, filter_none, each_weaker}
 use Rattle.world_laws.proofs.Times.{le_from_test, lt_from_test, gt_from_test, ge_from_test, lt_test, not_lt_test, not_le_test, inside_test}
 use Rattle.world_laws.proofs.Live.{carried_again}
@@ -87,37 +87,37 @@ module _ (bounds cut : Interval) (js is ks : List Event) (parts : AreParts bound
 
   module _ (es : List Event) where
     cs : List Event
-    cs = carried bounds.lo (live es)
+    cs = carried_events bounds.lo (live_events es)
 
     -- where the window begins later, what was carried is early for it
     clip_later : bounds.lo <ℤ cut.lo
-        → carried cut.lo (live (filter (is_early cut) (carried bounds.lo (live es) ++ (js ++ (is ++ ks))))) ++ filter (is_within cut) (carried bounds.lo (live es) ++ (js ++ (is ++ ks)))
-        ≡ carried cut.lo (live (es ++ js)) ++ is
+        → carried_events cut.lo (live_events (filter (is_early cut) (carried_events bounds.lo (live_events es) ++ (js ++ (is ++ ks))))) ++ filter (is_within cut) (carried_events bounds.lo (live_events es) ++ (js ++ (is ++ ks)))
+        ≡ carried_events cut.lo (live_events (es ++ js)) ++ is
     clip_later less =
-        let c = carried bounds.lo (live es) in
-        let c_early : filter (is_early cut) c ≡ c = filter_all (is_early cut) c (each_weaker (λ x. x.time ≡ bounds.lo) (λ x. is_early cut x ≡ true) (λ x e. lt_test x.time cut.lo (subst (λ z. z <ℤ cut.lo) (sym e) less)) c (carried_times bounds.lo (live es))) in
-        let c_out : filter (is_within cut) c ≡ [] = filter_none (is_within cut) c (each_weaker (λ x. x.time ≡ bounds.lo) (λ x. is_within cut x ≡ false) (λ x e. before_within cut x (subst (λ z. z <ℤ cut.lo) (sym e) less)) c (carried_times bounds.lo (live es))) in
+        let c = carried_events bounds.lo (live_events es) in
+        let c_early : filter (is_early cut) c ≡ c = filter_all (is_early cut) c (each_weaker (λ x. x.time ≡ bounds.lo) (λ x. is_early cut x ≡ true) (λ x e. lt_test x.time cut.lo (subst (λ z. z <ℤ cut.lo) (sym e) less)) c (carried_times bounds.lo (live_events es))) in
+        let c_out : filter (is_within cut) c ≡ [] = filter_none (is_within cut) c (each_weaker (λ x. x.time ≡ bounds.lo) (λ x. is_within cut x ≡ false) (λ x e. before_within cut x (subst (λ z. z <ℤ cut.lo) (sym e) less)) c (carried_times bounds.lo (live_events es))) in
         let early : filter (is_early cut) (c ++ (js ++ (is ++ ks))) ≡ c ++ js = filter_four (is_early cut) c js is ks ∙ (four _ _ _ _ c js [] [] c_early js_early is_not_early ks_not_early ∙ ap (λ ys. c ++ ys) (append-nil js)) in
         let within : filter (is_within cut) (c ++ (js ++ (is ++ ks))) ≡ is = filter_four (is_within cut) c js is ks ∙ (four _ _ _ _ [] [] is [] c_out js_outside is_kept ks_outside ∙ append-nil is) in
-        ap (λ ys. carried cut.lo (live ys) ++ filter (is_within cut) (c ++ (js ++ (is ++ ks)))) early
-        ∙ (ap (λ ys. carried cut.lo (live (c ++ js)) ++ ys) within
+        ap (λ ys. carried_events cut.lo (live_events ys) ++ filter (is_within cut) (c ++ (js ++ (is ++ ks)))) early
+        ∙ (ap (λ ys. carried_events cut.lo (live_events (c ++ js)) ++ ys) within
         ∙ ap (λ ys. ys ++ is) (carried_again bounds.lo cut.lo es js))
 
     -- where the window begins at the same moment, what was carried is inside it
     clip_same : bounds.lo ≡ cut.lo
-        → carried cut.lo (live (filter (is_early cut) (carried bounds.lo (live es) ++ (js ++ (is ++ ks))))) ++ filter (is_within cut) (carried bounds.lo (live es) ++ (js ++ (is ++ ks)))
-        ≡ carried cut.lo (live (es ++ js)) ++ is
+        → carried_events cut.lo (live_events (filter (is_early cut) (carried_events bounds.lo (live_events es) ++ (js ++ (is ++ ks))))) ++ filter (is_within cut) (carried_events bounds.lo (live_events es) ++ (js ++ (is ++ ks)))
+        ≡ carried_events cut.lo (live_events (es ++ js)) ++ is
     clip_same same =
-        let c = carried bounds.lo (live es) in
+        let c = carried_events bounds.lo (live_events es) in
         let none : js ≡ [] = nothing js parts.begun parts.early in
-        let c_late : filter (is_early cut) c ≡ [] = filter_none (is_early cut) c (each_weaker (λ x. x.time ≡ bounds.lo) (λ x. is_early cut x ≡ false) (λ x e. not_lt_test x.time cut.lo (at_beginning x e)) c (carried_times bounds.lo (live es))) in
-        let c_in : filter (is_within cut) c ≡ c = filter_all (is_within cut) c (each_weaker (λ x. x.time ≡ bounds.lo) (λ x. is_within cut x ≡ true) (λ x e. inside_test cut x.time (at_beginning x e) (before_end x e)) c (carried_times bounds.lo (live es))) in
+        let c_late : filter (is_early cut) c ≡ [] = filter_none (is_early cut) c (each_weaker (λ x. x.time ≡ bounds.lo) (λ x. is_early cut x ≡ false) (λ x e. not_lt_test x.time cut.lo (at_beginning x e)) c (carried_times bounds.lo (live_events es))) in
+        let c_in : filter (is_within cut) c ≡ c = filter_all (is_within cut) c (each_weaker (λ x. x.time ≡ bounds.lo) (λ x. is_within cut x ≡ true) (λ x e. inside_test cut x.time (at_beginning x e) (before_end x e)) c (carried_times bounds.lo (live_events es))) in
         let early : filter (is_early cut) (c ++ (js ++ (is ++ ks))) ≡ [] = filter_four (is_early cut) c js is ks ∙ (four _ _ _ _ [] [] [] [] c_late (ap (filter (is_early cut)) none) is_not_early ks_not_early) in
         let within : filter (is_within cut) (c ++ (js ++ (is ++ ks))) ≡ c ++ is = filter_four (is_within cut) c js is ks ∙ (four _ _ _ _ c [] is [] c_in js_outside is_kept ks_outside ∙ ap (λ ys. c ++ ys) (append-nil is)) in
-        ap (λ ys. carried cut.lo (live ys) ++ filter (is_within cut) (c ++ (js ++ (is ++ ks)))) early
+        ap (λ ys. carried_events cut.lo (live_events ys) ++ filter (is_within cut) (c ++ (js ++ (is ++ ks)))) early
         ∙ (within
-        ∙ (ap (λ t. carried t (live es) ++ is) same
-        ∙ ap (λ ys. carried cut.lo (live ys) ++ is) (sym (append-nil es) ∙ ap (λ ys. es ++ ys) (sym none))))
+        ∙ (ap (λ t. carried_events t (live_events es) ++ is) same
+        ∙ ap (λ ys. carried_events cut.lo (live_events ys) ++ is) (sym (append-nil es) ∙ ap (λ ys. es ++ ys) (sym none))))
       where
         nothing : (xs : List Event) → AllByRecursion (λ x. bounds.lo ≤ℤ x.time) xs → AllByRecursion (λ x. x.time <ℤ cut.lo) xs → xs ≡ []
         nothing [] h k = refl
@@ -130,7 +130,7 @@ module _ (bounds cut : Interval) (js is ks : List Event) (parts : AreParts bound
         before_end x e = omega (arith, ints)
 
     -- what a window shows of a span in the persistent model
-    pub persistent_clip : clip_list Persistent cut (carried bounds.lo (live es) ++ (js ++ (is ++ ks))) ≡ carried cut.lo (live (es ++ js)) ++ is
+    pub persistent_clip : clip_list Persistent cut (carried_events bounds.lo (live_events es) ++ (js ++ (is ++ ks))) ≡ carried_events cut.lo (live_events (es ++ js)) ++ is
     persistent_clip =
         cond-false (is_empty cut) _ _ not_empty_test
         ∙ (elim (cases_Bool (int_lt bounds.lo cut.lo)) [

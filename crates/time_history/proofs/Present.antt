@@ -11,15 +11,15 @@ use Rattle.graph_model.specs.declared.events.Event.{Event}
 use Rattle.graph_model.specs.declared.events.Model.{Model}
 use Rattle.graph_model.specs.declared.events.Model.TheVariants.{Event as Instants, Persistent}
 use Rattle.graph_model.specs.Interval.{Interval, is_inside}
-use Rattle.graph_model.specs.Compare.{live}
-use Rattle.graph_model.specs.Window.{carried}
+use Rattle.graph_model.specs.Compare.{live_events}
+use Rattle.graph_model.specs.Window.{carried_events}
 use Rattle.graph_model.specs.Presence.{lives_at, ends_in_addition}
 use Rattle.world_laws.proofs.Times.{lt_from_test, ge_from_test, le_test, not_le_test, inside_test}
 use Rattle.time_history.specs.declared.updates.Update.{Update}
 use Rattle.time_history.specs.declared.span.Span.{Span}
 use Rattle.time_history.specs.NoEvent.{HasNoEvent}
 use Rattle.time_history.specs.Updates.{update_at, TimesRise}
-use Rattle.time_history.specs.Told.{event_told, events_told, named, Fits}
+use Rattle.time_history.specs.Telling.{event_told, events_told, with_key_names, Fits}
 use Rattle.time_history.specs.Spans.{IsSpan, IsCut, IsTaken, IsAllowed, spelled}
 use Rattle.time_history.specs.Asked.{IsPresent, is_final_at}
 use Rattle.time_history.proofs.Segments.{slice_split, slice_nothing, slice_map, each_in_slice, each_in_map}
@@ -33,9 +33,9 @@ no_second true = refl
 no_second false = refl
 
 -- one event that is carried, before others
-final-carried : (lo : ℤ) (xs ys : List Event) → ends_in_addition (carried lo xs) ≡ true → final_any (carried lo xs ++ ys) ≡ (not (list_any (λ y. int_le y.time lo) ys) || final_any ys)
-final-carried lo [] ys h = cc
-final-carried lo (x ∷ xs) ys h = ap (λ b. (b && not (list_any (λ y. int_le y.time lo) ys)) || final_any ys) h
+final-carried_events : (lo : ℤ) (xs ys : List Event) → ends_in_addition (carried_events lo xs) ≡ true → final_any (carried_events lo xs ++ ys) ≡ (not (list_any (λ y. int_le y.time lo) ys) || final_any ys)
+final-carried_events lo [] ys h = cc
+final-carried_events lo (x ∷ xs) ys h = ap (λ b. (b && not (list_any (λ y. int_le y.time lo) ys)) || final_any ys) h
 
 none_early : (lo : ℤ) (ys : List Event) → AllByRecursion (λ y. lo <ℤ y.time) ys → list_any (λ y. int_le y.time lo) ys ≡ false
 none_early lo [] h = refl
@@ -77,7 +77,7 @@ module _ (edge : EdgeName) (names : ℕ → List ℕ) (us : List Update) (rise :
   final_first : (i to : ℕ) → i < to → to ≤ length us → final_any (slice_range (events_told (Edge edge) names us) i to) ≡ (is_final_at us i to || final_any (slice_range (events_told (Edge edge) names us) (i + 1) to))
   final_first i to lt le =
       ap final_any (slice_first i to lt le)
-      ∙ (λ j. (adds-told edge (update_at us i).kind (named names (update_at us i).props) j && followed i to lt le j) || final_any (slice_range (events_told (Edge edge) names us) (i + 1) to))
+      ∙ (λ j. (adds-told edge (update_at us i).kind (with_key_names names (update_at us i).props) j && followed i to lt le j) || final_any (slice_range (events_told (Edge edge) names us) (i + 1) to))
 
   final_none : (n i to : ℕ) → i + n ≡ to → to ≤ length us → ((k : ℕ) → i ≤ k → k < to → is_final_at us k to ≡ false) → final_any (slice_range (events_told (Edge edge) names us) i to) ≡ false
   final_none zero i to e le h = let same : to ≡ i = omega arith in ap (λ n. final_any (slice_range (events_told (Edge edge) names us) i n)) same ∙ ap final_any (slice_nothing (events_told (Edge edge) names us) i)
@@ -114,26 +114,26 @@ module _ (edge : EdgeName) (names : ℕ → List ℕ) (us : List Update) (rise :
     inside_rest : AllByRecursion (λ x. is_inside bounds x.time ≡ true) (slice_range (events_told (Edge edge) names us) span.from span.to)
     inside_rest = timed (λ t. is_inside bounds t ≡ true) span.from span.to s.end (λ k a b. inside_test bounds (update_at us k).time (cut.begun k a b) (cut.unended k a b))
 
-    inside_all : (c : Bool) (xs : List Event) → AllByRecursion (λ x. is_inside bounds x.time ≡ true) (cond c (carried bounds.lo xs) [] ++ slice_range (events_told (Edge edge) names us) span.from span.to)
+    inside_all : (c : Bool) (xs : List Event) → AllByRecursion (λ x. is_inside bounds x.time ≡ true) (cond c (carried_events bounds.lo xs) [] ++ slice_range (events_told (Edge edge) names us) span.from span.to)
     inside_all false xs = inside_rest
     inside_all true [] = inside_rest
     inside_all true (x ∷ xs) = let some = cut.some in (inside_test bounds bounds.lo (omega (arith, ints)) some, inside_rest)
 
-    rising_all : (c : Bool) (xs : List Event) → EventsRise (cond c (carried bounds.lo xs) [] ++ slice_range (events_told (Edge edge) names us) span.from span.to)
+    rising_all : (c : Bool) (xs : List Event) → EventsRise (cond c (carried_events bounds.lo xs) [] ++ slice_range (events_told (Edge edge) names us) span.from span.to)
     rising_all false xs = let order = s.order in rising_slice (span.to - span.from) span.from span.to (omega arith) s.end
     rising_all true [] = let order = s.order in rising_slice (span.to - span.from) span.from span.to (omega arith) s.end
     rising_all true (x ∷ xs) = let order = s.order in (timed (λ t. bounds.lo ≤ℤ t) span.from span.to s.end cut.begun, rising_slice (span.to - span.from) span.from span.to (omega arith) s.end)
 
     pub present_is : list_any (λ x. lives_at Persistent bounds (spelled (Edge edge) names us span bounds.lo) x.time) (spelled (Edge edge) names us span bounds.lo) ≡ final_any (spelled (Edge edge) names us span bounds.lo)
     present_is =
-        let xs = live (take span.from (events_told (Edge edge) names us)) in
+        let xs = live_events (take span.from (events_told (Edge edge) names us)) in
         present_inside bounds (spelled (Edge edge) names us span bounds.lo) (spelled (Edge edge) names us span bounds.lo) (inside_all span.carried xs) ∙ present_final (spelled (Edge edge) names us span bounds.lo) (rising_all span.carried xs)
 
     -- what is carried is final where nothing follows at the beginning
-    with_carried : (c : Bool) → c ≡ span.carried → final_any (cond c (carried bounds.lo (live (take span.from (events_told (Edge edge) names us)))) [] ++ slice_range (events_told (Edge edge) names us) span.from span.to)
+    with_carried : (c : Bool) → c ≡ span.carried → final_any (cond c (carried_events bounds.lo (live_events (take span.from (events_told (Edge edge) names us)))) [] ++ slice_range (events_told (Edge edge) names us) span.from span.to)
         ≡ ((c && not (list_any (λ y. int_le y.time bounds.lo) (slice_range (events_told (Edge edge) names us) span.from span.to))) || final_any (slice_range (events_told (Edge edge) names us) span.from span.to))
     with_carried false e = refl
-    with_carried true e = final-carried bounds.lo (live (take span.from (events_told (Edge edge) names us))) (slice_range (events_told (Edge edge) names us) span.from span.to) (carried_alive edge names us span bounds.lo s fit true e)
+    with_carried true e = final-carried_events bounds.lo (live_events (take span.from (events_told (Edge edge) names us))) (slice_range (events_told (Edge edge) names us) span.from span.to) (carried_alive edge names us span bounds.lo s fit true e)
 
     present_parts : list_any (λ x. lives_at Persistent bounds (spelled (Edge edge) names us span bounds.lo) x.time) (spelled (Edge edge) names us span bounds.lo)
         ≡ ((span.carried && not (list_any (λ y. int_le y.time bounds.lo) (slice_range (events_told (Edge edge) names us) span.from span.to))) || final_any (slice_range (events_told (Edge edge) names us) span.from span.to))
@@ -196,7 +196,7 @@ present_instants Instants bounds us span false m s none t some bare =
     uncarried (inr cut) = cut.carried
 present_instants Instants bounds us span true m s none t some bare = λ edge names fit.
     let lt = some refl in
-    sym (ap (λ b. list_any (λ x. lives_at Instants bounds (spelled (Edge edge) names us span bounds.lo) x.time) (cond b (carried bounds.lo (live (take span.from (events_told (Edge edge) names us)))) [] ++ slice_range (events_told (Edge edge) names us) span.from span.to)) (uncarried t)
+    sym (ap (λ b. list_any (λ x. lives_at Instants bounds (spelled (Edge edge) names us span bounds.lo) x.time) (cond b (carried_events bounds.lo (live_events (take span.from (events_told (Edge edge) names us)))) [] ++ slice_range (events_told (Edge edge) names us) span.from span.to)) (uncarried t)
     ∙ any_at edge names us (λ x. lives_at Instants bounds (spelled (Edge edge) names us span bounds.lo) x.time) span.from span.to span.from s.end (omega arith) lt
     (sym (alive_instants edge names us span bounds (update_at us span.from).time true s none (uncarried t) (span.from, omega arith, lt, refl))))
   where

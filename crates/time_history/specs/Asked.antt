@@ -19,7 +19,7 @@ use Rattle.time_history.specs.declared.updates.Update.{Update}
 use Rattle.time_history.specs.declared.span.Span.{Span}
 use Rattle.time_history.specs.Kinds.{is_delete}
 use Rattle.time_history.specs.Updates.{update_at, ValuesRise}
-use Rattle.time_history.specs.Told.{events_told, Fits}
+use Rattle.time_history.specs.Telling.{events_told, Fits}
 use Rattle.time_history.specs.Spans.{spelled}
 
 -- whether an edge is alive at a moment, by the events that its span spells
@@ -36,14 +36,14 @@ abbrev pub IsPresent : Model → Interval → List Update → Span → Bool → 
 IsPresent model bounds us span present = (edge : EdgeName) (names : ℕ → List ℕ) → Fits (Edge edge) us
     → present ≡ list_any (λ x. lives_at model bounds (spelled (Edge edge) names us span bounds.lo) x.time) (spelled (Edge edge) names us span bounds.lo)
 
-abbrev pub kind_of : What → Kind
-kind_of (NodeUpdate name props) = Node
-kind_of (EdgeAdded edge props) = Add
-kind_of (EdgeDeleted edge) = Delete
+abbrev pub kind_of_event : What → Kind
+kind_of_event (NodeUpdate name props) = Node
+kind_of_event (EdgeAdded edge props) = Add
+kind_of_event (EdgeDeleted edge) = Delete
 
 -- the kind of the last event that a span spells
 abbrev pub IsLastKind : List Update → Span → Option Kind → Type 0
-IsLastKind us span kind = (entity : Entity) (names : ℕ → List ℕ) (lo : ℤ) → Fits entity us → kind ≡ option_map (λ (x : Event). kind_of x.what) (last_or None (spelled entity names us span lo))
+IsLastKind us span kind = (entity : Entity) (names : ℕ → List ℕ) (lo : ℤ) → Fits entity us → kind ≡ option_map (λ (x : Event). kind_of_event x.what) (last_or None (spelled entity names us span lo))
 
 -- whether an update is an addition, and the next before a place is later
 abbrev pub is_final_at : List Update → ℕ → ℕ → Bool

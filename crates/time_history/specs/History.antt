@@ -5,10 +5,10 @@ use Rattle.graph_model.specs.declared.properties.Value.{Value as GraphValue}
 use Rattle.time_column.specs.Stamp.{Stamp, IsRising}
 use Rattle.time_history.specs.declared.updates.Update.{Update}
 use Rattle.time_history.specs.declared.updates.Kind.{Kind}
-use Rattle.time_history.specs.KeyValues.{KeysRise}
+use Rattle.time_history.specs.KeyValues.{KeyNumbersRise}
 
 -- the updates, and how many more there is room for without memory
-pub record Known : Type 0 where
+pub record UpdateList : Type 0 where
   pub updates : List Update
   pub spare : ℕ
 
@@ -27,4 +27,4 @@ pub record IsSound (stamps : List Stamp) (changes : List Change) : Type 0 where
   pub lengths : length stamps ≡ length changes
   pub fits : length changes < 2 ^ 32
   pub rising : IsRising stamps
-  pub rise : AllByRecursion (λ (c : Change). KeysRise c.1) changes
+  pub rise : AllByRecursion (λ (c : Change). KeyNumbersRise c.1) changes

@@ -5,9 +5,9 @@ use Rattle.std.specs.Option.{option_map}
 use Rattle.graph_model.specs.declared.properties.Value.{Value}
 
 -- each key is less than those after it
-abbrev pub KeysRise : List (ℕ × Value) → Type 0
-KeysRise [] = ⊤
-KeysRise (p ∷ ps) = AllByRecursion (λ (q : ℕ × Value). p.0 < q.0) ps × KeysRise ps
+abbrev pub KeyNumbersRise : List (ℕ × Value) → Type 0
+KeyNumbersRise [] = ⊤
+KeyNumbersRise (p ∷ ps) = AllByRecursion (λ (q : ℕ × Value). p.0 < q.0) ps × KeyNumbersRise ps
 
 -- the value of a key
 abbrev pub value_at_key : ℕ → List (ℕ × Value) → Option Value

@@ -10,7 +10,7 @@ ghost use Rattle.graph_model.specs.declared.events.Model.TheVariants.{Event as I
 ghost use Rattle.time_history.specs.Kinds.{OfOneSort};
 ghost use Rattle.time_column.specs.Stamp.{is_not_after};
 ghost use Rattle.time_history.specs.Updates.{stamp_of, update_at, placed, ComesLast, UpdatesRise, TimesRise, ValuesRise};
-ghost use Rattle.time_history.specs.Spans.{carries, IsSpan, IsCut, IsTaken, IsPart, IsAllowed, IsClipped};
+ghost use Rattle.time_history.specs.Spans.{carries, IsSpan, IsCut, IsTaken, IsEmptyOrInside, IsAllowed, IsClipped};
 ghost use Rattle.time_history.specs.Asked.{IsAliveAt, HappensAt, IsPresent, IsLastKind, IsValue, IsValueIn, IsNextUpdate, IsNextContact, is_final_at};
 
 use crate::search::{Probe, first_after, last_place};
@@ -42,9 +42,9 @@ pub struct History {
 }
 
 impl Model for History {
-    ghost use Rattle.time_history.specs.History.{Known, IsSound, updates_of};
+    ghost use Rattle.time_history.specs.History.{UpdateList, IsSound, updates_of};
 
-    ghost Value = { Known };
+    ghost Value = { UpdateList };
 
     ghost view = { λ h. record {
       updates = updates_of h.column.stamps h.column.besides;
@@ -214,7 +214,7 @@ impl History {
     ) -> Span
         requires span { IsSpan self.now.updates span }
         requires taken { IsTaken model bounds self.now.updates span }
-        requires part { IsPart bounds cut }
+        requires part { IsEmptyOrInside bounds cut }
         requires allowed { IsAllowed model self.now.updates }
         ensures span { IsSpan self.now.updates result }
         ensures taken { IsTaken model cut self.now.updates result }

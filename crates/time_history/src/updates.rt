@@ -69,18 +69,18 @@ pub struct KeyValues {
 impl Model for KeyValues {
     ghost use Rattle.std.specs.Prelude.{ℕ, List};
     ghost use Rattle.graph_model.specs.declared.properties.Value.{Value as GraphValue};
-    ghost use Rattle.time_history.specs.KeyValues.{KeysRise};
+    ghost use Rattle.time_history.specs.KeyValues.{KeyNumbersRise};
     ghost use Rattle.time_history.specs.Pairs.{pairs_in};
 
     ghost Value = { List (ℕ × GraphValue) };
 
     ghost view = { λ a. pairs_in a.form };
 
-    ghost invariant = { λ a. KeysRise (pairs_in a.form) };
+    ghost invariant = { λ a. KeyNumbersRise (pairs_in a.form) };
 }
 
 impl KeyValues {
-    ghost use Rattle.time_history.specs.KeyValues.{KeysRise, value_at_key};
+    ghost use Rattle.time_history.specs.KeyValues.{KeyNumbersRise, value_at_key};
     ghost use Rattle.time_history.specs.Pairs.{pairs_of};
 
     /// No value.
@@ -124,7 +124,7 @@ impl KeyValues {
     /// The pairs, side by side.
     fn items(&self) -> &[KeyValue]
         ensures pairs { pairs_of result.now ≡ self.now }
-        ensures rise { KeysRise self.now }
+        ensures rise { KeyNumbersRise self.now }
     {
         match &self.form {
             Form::Nothing => &[],
@@ -135,7 +135,7 @@ impl KeyValues {
 
     pub fn len(&self) -> usize
         ensures len { result ≡ length self.now }
-        ensures rise { KeysRise self.now }
+        ensures rise { KeyNumbersRise self.now }
     {
         self.items().len()
     }

@@ -14,8 +14,8 @@ use Rattle.time_history.specs.Asked.{AreNamed, IsAliveAt, IsValue}
 use Rattle.time_history.specs.Spans.{spelled}
 use Rattle.graph_store.specs.Keys.{key_name}
 use Rattle.graph_store.specs.Contents.{Contents, key_names_for}
-use Rattle.view_trait.specs.Meaning.{IsWithin, Tells, Shows, edge_at, edge_named}
-use Rattle.view_trait.proofs.Costs.{IsWithin-more}
+use Rattle.view_trait.specs.Meaning.{StepsWithin, Tells, Shows, edge_at, edge_named}
+use Rattle.view_trait.proofs.Costs.{StepsWithin-more}
 use Rattle.view_trait.proofs.Found.{IsFound, span_fits_store, spelled_is}
 
 pub value_is : (c : Contents) (w : World) (x : Entity) (us : List Update) (s : Span) (n key : ℕ) (value : Option Value) → Tells c x us → Shows c w x s → AreNamed (key_names_for c x) n us → key < n → IsValue us s key value
@@ -33,6 +33,6 @@ alive_is c w e model bounds us s m alive f is =
 
 -- one search more, in the span
 pub one_more : (c : Contents) (w : World) (x : Entity) (model : Model) (bounds : Interval) (us : List Update) (s : Span) (before between after searches : ℕ) → IsFound c w x model bounds us s
-    → IsWithin before between searches (length c.accepted) → after ≤ between + (digits (s.to - s.from) + 1) → IsWithin before after (searches + 1) (length c.accepted)
+    → StepsWithin before between searches (length c.accepted) → after ≤ between + (digits (s.to - s.from) + 1) → StepsWithin before after (searches + 1) (length c.accepted)
 one_more c w x model bounds us s before between after searches f h k =
-    IsWithin-more before between after searches 1 (length c.accepted) (s.to - s.from) h (grind arith) (span_fits_store c w x model bounds us s f)
+    StepsWithin-more before between after searches 1 (length c.accepted) (s.to - s.from) h (grind arith) (span_fits_store c w x model bounds us s f)

@@ -25,7 +25,7 @@ use Rattle.world_laws.proofs.RisingFixed.{rising_fixed}
 use Rattle.graph_store.specs.declared.edges.EdgeParts.{EdgeParts}
 use Rattle.graph_store.specs.Contents.{Contents, edge_name, name_at}
 use Rattle.graph_store.specs.Indexed.{IsIndexed}
-use Rattle.graph_store.specs.Parts.{parts_at, same_parts}
+use Rattle.graph_store.specs.EdgeParts.{parts_at, same_parts}
 use Rattle.graph_store.proofs.EdgeNames.{each_from}
 use Rattle.graph_store.proofs.Listed.{one_place, list_any-place}
 use Rattle.view_trait.specs.Meaning.{IsShown, edge_named}

@@ -2,7 +2,7 @@
 use Rattle.std.proofs.Common.{◌≡◌, List, [], ◌∷◌, map, refl, sym, ◌∙◌, ap}
 use Rattle.std.proofs.lemmas.Simd.{map-map}
 use Rattle.graph_model.specs.declared.events.Event.{Event}
-use Rattle.graph_model.specs.Answer.{Row, Named, Degrees, degree_row, extent_row}
+use Rattle.graph_model.specs.Answer.{Row, NodeRow, DegreeRow, degree_row, extent_row}
 use Rattle.graph_model.specs.Presence.{nodes}
 use Rattle.graph_model.specs.World.{World}
 use Rattle.graph_store.specs.Contents.{Contents, name_at}
@@ -13,10 +13,10 @@ use Rattle.view_answers.specs.Extents.{extent_told}
 
 -- the row of the name that a row of degrees has
 name_row : Row → Row
-name_row (Degrees node ins outs both) = Named node
+name_row (DegreeRow node ins outs both) = NodeRow node
 name_row row = row
 
-pub names_from_degrees : (c : Contents) (w : World) (rows : List Degree) → map (degree_row_of c) rows ≡ map (degree_row w) (nodes w) → map (λ d. Named (name_at c.nodes d.node.0)) rows ≡ map Named (nodes w)
+pub names_from_degrees : (c : Contents) (w : World) (rows : List Degree) → map (degree_row_of c) rows ≡ map (degree_row w) (nodes w) → map (λ d. NodeRow (name_at c.nodes d.node.0)) rows ≡ map NodeRow (nodes w)
 unfolding name_row
 names_from_degrees c w rows h = sym (map-map name_row (degree_row_of c) rows) ∙ (ap (map name_row) h ∙ map-map name_row (degree_row w) (nodes w))
 

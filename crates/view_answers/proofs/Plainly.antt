@@ -5,7 +5,7 @@ use Rattle.graph_model.specs.declared.queries.Ask.{Ask}
 use Rattle.graph_model.specs.Answer.{IsAnswer, Row}
 use Rattle.graph_model.specs.RowText.{rows_text}
 use Rattle.graph_model.specs.World.{World}
-use Rattle.view_answers.specs.Parts.{AddsPart, part_rows}
+use Rattle.view_answers.specs.WorldPart.{AddsPart, part_rows}
 
 -- rows that answer a question, behind the row of their world, are its part, also for a question that is the same
 pub part_added : {T E : Type 0} (r : Result T E) (w : World) (ask other : Ask) (answer : List Row) (old new : List ℕ) → ask ≡ other → IsAnswer w other answer

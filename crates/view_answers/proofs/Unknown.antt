@@ -15,13 +15,13 @@ use Rattle.graph_model.specs.declared.events.Event.{Event}
 use Rattle.graph_model.specs.declared.events.Model.{Model}
 use Rattle.graph_model.specs.declared.events.Model.TheVariants.{Event as Instants, Persistent}
 use Rattle.graph_model.specs.Interval.{is_inside}
-use Rattle.graph_model.specs.Compare.{live, value_of}
+use Rattle.graph_model.specs.Compare.{live_events, value_of}
 use Rattle.graph_model.specs.Entity.{entity_of, props_of, same_entity}
 use Rattle.graph_model.specs.Names.{same_name}
 use Rattle.graph_model.specs.Presence.{alive_at, lives_at}
 use Rattle.graph_model.specs.Props.{has_key, overwrite, prop_value, put_prop}
 use Rattle.graph_model.specs.Spell.{spell}
-use Rattle.graph_model.specs.Window.{carried, last_props}
+use Rattle.graph_model.specs.Window.{carried_events, last_props}
 use Rattle.graph_model.specs.World.{World, events_of}
 use Rattle.world_laws.proofs.Carried.{each_live, props-update_of}
 use Rattle.world_laws.proofs.Distinct.{any-put_prop, prop_value-none}
@@ -32,7 +32,7 @@ use Rattle.time_history.specs.declared.updates.Kind.TheVariants.{Node as OfNode,
 use Rattle.time_history.specs.declared.updates.Update.{Update}
 use Rattle.time_history.specs.declared.span.Span.{Span}
 use Rattle.time_history.specs.Asked.{AreNamed}
-use Rattle.time_history.specs.Told.{events_told, named, what_told}
+use Rattle.time_history.specs.Telling.{events_told, with_key_names, what_told}
 use Rattle.graph_store.specs.Contents.{Contents, edge_entities, edge_name, key_names_for, name_at}
 use Rattle.graph_store.specs.Keys.{key_name}
 use Rattle.graph_store.specs.declared.edges.EdgeParts.{EdgeParts}
@@ -119,15 +119,15 @@ module _ (key : List ℕ) where
   folded ps [] h k = h
   folded ps (x ∷ xs) h k = folded (overwrite ps (props_of x)) xs (overwritten ps (props_of x) h k.0) k.1
 
-  carried_lacks : (lo : ℤ) (xs : List Event) → AllByRecursion Lacks xs → AllByRecursion Lacks (carried lo xs)
+  carried_lacks : (lo : ℤ) (xs : List Event) → AllByRecursion Lacks xs → AllByRecursion Lacks (carried_events lo xs)
   unfolding Lacks
   carried_lacks lo [] h = tt
   carried_lacks lo (x ∷ xs) h = (ap (has_key key) (props-update_of (entity_of x) (last_props (x ∷ xs))) ∙ folded [] (x ∷ xs) refl h, tt)
 
   spelled_lacks : (h : List Event) (from to : ℕ) (over : Bool) (lo : ℤ) → AllByRecursion Lacks h → AllByRecursion Lacks (spell h from to over lo)
   spelled_lacks h from to over lo k =
-      each_append Lacks (cond over (carried lo (live (take from h))) []) (slice_range h from to)
-      (cond_both over (carried lo (live (take from h))) [] (AllByRecursion Lacks) (λ e. carried_lacks lo (live (take from h)) (each_live Lacks (take from h) (each_taken Lacks from h k))) (λ e. tt))
+      each_append Lacks (cond over (carried_events lo (live_events (take from h))) []) (slice_range h from to)
+      (cond_both over (carried_events lo (live_events (take from h))) [] (AllByRecursion Lacks) (λ e. carried_lacks lo (live_events (take from h)) (each_live Lacks (take from h) (each_taken Lacks from h k))) (λ e. tt))
       (each_taken Lacks (to - from) (drop from h) (each_dropped Lacks from h k))
 
   nothing_set : (xs : List Event) → AllByRecursion Lacks xs → filter_map (λ x. prop_value key (props_of x)) xs ≡ []
@@ -136,17 +136,17 @@ module _ (key : List ℕ) where
   nothing_set (x ∷ xs) h = ap (λ o. cons_option o (filter_map (λ y. prop_value key (props_of y)) xs)) (prop_value-none key (props_of x) h.0) ∙ nothing_set xs h.1
 
   no_value : (xs : List Event) → AllByRecursion Lacks xs → value_of key xs ≡ None
-  no_value xs h = ap (last_or None) (nothing_set (live xs) (each_live Lacks xs h))
+  no_value xs h = ap (last_or None) (nothing_set (live_events xs) (each_live Lacks xs h))
 
   module _ (names : ℕ → List ℕ) (n : ℕ) (other : (k : ℕ) → k < n → same_name key (names k) ≡ false) where
-    named_lack : (ps : List (ℕ × Value)) → AllByRecursion (λ (p : ℕ × Value). p.0 < n) ps → has_key key (named names ps) ≡ false
+    named_lack : (ps : List (ℕ × Value)) → AllByRecursion (λ (p : ℕ × Value). p.0 < n) ps → has_key key (with_key_names names ps) ≡ false
     named_lack [] h = refl
-    named_lack (p ∷ ps) h = any-put_prop (λ (q : List ℕ × Value). same_name key q.0) (names p.0, p.1) (named names ps) ∙ (λ i. other p.0 h.0 i || named_lack ps h.1 i)
+    named_lack (p ∷ ps) h = any-put_prop (λ (q : List ℕ × Value). same_name key q.0) (names p.0, p.1) (with_key_names names ps) ∙ (λ i. other p.0 h.0 i || named_lack ps h.1 i)
 
     told_lacks : (x : Entity) (us : List Update) → AllByRecursion (λ (u : Update). AllByRecursion (λ (p : ℕ × Value). p.0 < n) u.props) us → AllByRecursion Lacks (events_told x names us)
     unfolding Lacks
     told_lacks x [] h = tt
-    told_lacks x (u ∷ us) h = (one x u.kind (named names u.props) (named_lack u.props h.0), told_lacks x us h.1)
+    told_lacks x (u ∷ us) h = (one x u.kind (with_key_names names u.props) (named_lack u.props h.0), told_lacks x us h.1)
       where
         one : (y : Entity) (kind : Kind) (ps : List (List ℕ × Value)) → has_key key ps ≡ false → has_key key (props_of (record { time = u.time; order = u.order; what = what_told y kind ps })) ≡ false
         one (Node name) kind ps k = k

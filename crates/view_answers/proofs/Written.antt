@@ -4,14 +4,14 @@ use Rattle.std.specs.Prelude.{OnOk, Result, Ok, Err, Some, slice_get}
 use Rattle.std.proofs.lemmas.List.{append-nil, drop_more, drop_all}
 use Rattle.std.proofs.lemmas.Option.{get_or_from_slice_get, slice_get_within}
 use Rattle.csv.specs.Writing.{default_writer, row_text}
-use Rattle.graph_model.specs.Answer.{Row, Happened, row_fields}
+use Rattle.graph_model.specs.Answer.{Row, MomentRow, row_fields}
 use Rattle.graph_model.specs.Interval.{Interval}
 use Rattle.graph_model.specs.Output.{world_row}
 use Rattle.graph_model.specs.RowText.{rows_text}
 use Rattle.graph_model.specs.World.{World}
-use Rattle.materialise.specs.declared.moments.Moment.{Moment}
+use Rattle.view_lists.specs.declared.moments.Moment.{Moment}
 use Rattle.view_answers.specs.Moments.{kind_word, moment_rows}
-use Rattle.view_answers.specs.Parts.{part_rows}
+use Rattle.view_answers.specs.WorldPart.{part_rows}
 
 -- the first of some rows, and those behind it
 pub row_written : (row : Row) (left behind : List Row) (before after : List ℕ) → left ≡ row ∷ behind → after ≡ before ++ row_text default_writer (row_fields row)
@@ -44,11 +44,11 @@ part_of (Ok x) w bounds n rows answer old new b count is h =
 
 -- ---- histories
 
-pub moments_left : (ms : List Moment) (i : ℕ) (m : Moment) → slice_get ms i ≡ Some m → moment_rows i (drop i ms) ≡ Happened i m.time (kind_word m.kind) ∷ moment_rows (i + 1) (drop (i + 1) ms)
+pub moments_left : (ms : List Moment) (i : ℕ) (m : Moment) → slice_get ms i ≡ Some m → moment_rows i (drop i ms) ≡ MomentRow i m.time (kind_word m.kind) ∷ moment_rows (i + 1) (drop (i + 1) ms)
 moments_left ms i m got =
     let more : drop i ms ≡ m ∷ drop (i + 1) ms = drop_more ms i m (slice_get_within ms i m got) ∙ ap (λ y. y ∷ drop (i + 1) ms) (get_or_from_slice_get ms i m m got) in
     let next : suc i ≡ i + 1 = omega arith in
-    ap (moment_rows i) more ∙ ap (λ k. Happened i m.time (kind_word m.kind) ∷ moment_rows k (drop (i + 1) ms)) next
+    ap (moment_rows i) more ∙ ap (λ k. MomentRow i m.time (kind_word m.kind) ∷ moment_rows k (drop (i + 1) ms)) next
 
 pub moments_end : (ms : List Moment) (i : ℕ) → length ms ≤ i → moment_rows i (drop i ms) ≡ []
 moments_end ms i h = ap (moment_rows i) (drop_all i ms h)

@@ -1,6 +1,6 @@
 pub mod Point
 pub mod Moments
-pub mod Parts
+pub mod WorldPart
 pub mod Costs
 pub mod Edges
 pub mod Extents

@@ -6,7 +6,7 @@ use Rattle.graph_model.specs.declared.queries.Ask.TheVariants.{Nodes, Edges, Eve
 use Rattle.graph_model.specs.Searches.{Searches, list_searches}
 use Rattle.graph_model.specs.World.{World}
 use Rattle.graph_store.specs.Contents.{Contents}
-use Rattle.view_trait.specs.Meaning.{IsWithin, knows}
+use Rattle.view_trait.specs.Meaning.{StepsWithin, knows}
 use Rattle.view_answers.specs.Costs.{known_searches}
 
 -- whether a question is about nodes, edges and events alone, and asks for no walk
@@ -27,15 +27,15 @@ is_plain _ = false
 -- node or edge, and in the event model one about all of them
 abbrev pub IsPaid : Contents → World → Searches → Ask → ℕ → ℕ → Type 0
 IsPaid c w s (NodeValue node key) before after =
-    IsWithin before after (known_searches (knows c) s (NodeValue node key)) (length c.accepted)
+    StepsWithin before after (known_searches (knows c) s (NodeValue node key)) (length c.accepted)
 IsPaid c w s (EdgeValue edge key) before after =
-    IsWithin before after (known_searches (knows c) s (EdgeValue edge key)) (length c.accepted)
+    StepsWithin before after (known_searches (knows c) s (EdgeValue edge key)) (length c.accepted)
 IsPaid c w s (EdgeAlive edge m) before after =
-    IsWithin before after (known_searches (knows c) s (EdgeAlive edge m)) (length c.accepted)
+    StepsWithin before after (known_searches (knows c) s (EdgeAlive edge m)) (length c.accepted)
 IsPaid c w s Nodes before after = w.model ≡ Instants
-    → IsWithin before after (list_searches s (length c.nodes) (length c.edges) Nodes) (length c.accepted)
+    → StepsWithin before after (list_searches s (length c.nodes) (length c.edges) Nodes) (length c.accepted)
 IsPaid c w s Degree before after = w.model ≡ Instants
-    → IsWithin before after (list_searches s (length c.nodes) (length c.edges) Degree) (length c.accepted)
+    → StepsWithin before after (list_searches s (length c.nodes) (length c.edges) Degree) (length c.accepted)
 IsPaid c w s Edges before after = w.model ≡ Instants
-    → IsWithin before after (list_searches s (length c.nodes) (length c.edges) Edges) (length c.accepted)
+    → StepsWithin before after (list_searches s (length c.nodes) (length c.edges) Edges) (length c.accepted)
 IsPaid c w s _ before after = Unit {0}

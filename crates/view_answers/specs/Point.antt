@@ -14,10 +14,10 @@ use Rattle.view_answers.specs.declared.point.PointAnswer.{PointAnswer}
 use Rattle.view_answers.specs.declared.point.PointAnswer.TheVariants.{NoRow, Value, Flag}
 
 -- the store has the numbers of a question
-abbrev pub IsNumbered : Contents → PointAsk → Type 0
-IsNumbered c (NodeValue n key) = (n.0 < length c.nodes) × (key < length c.node_keys)
-IsNumbered c (EdgeValue e key) = (e.0 < length c.edges) × (key < length c.edge_keys)
-IsNumbered c (EdgeAlive e m) = e.0 < length c.edges
+abbrev pub IsKnownAsk : Contents → PointAsk → Type 0
+IsKnownAsk c (NodeValue n key) = (n.0 < length c.nodes) × (key < length c.node_keys)
+IsKnownAsk c (EdgeValue e key) = (e.0 < length c.edges) × (key < length c.edge_keys)
+IsKnownAsk c (EdgeAlive e m) = e.0 < length c.edges
 
 -- the answer is this value, or that there is none
 abbrev pub IsValueAnswer : Option GraphValue → PointAnswer → Type 0

@@ -2,16 +2,16 @@
 ghost use Rattle.std.specs.Prelude.{◌≡◌, ◌<◌, ◌*◌, [], ◌∷◌, ◌++◌, length, map, IfOk, OnOk};
 ghost use Rattle.std.specs.List.{filter};
 ghost use Rattle.graph_model.specs.declared.events.Model.TheVariants.{Event as Instants};
-ghost use Rattle.graph_model.specs.Answer.{Linked, row_fields};
+ghost use Rattle.graph_model.specs.Answer.{EdgeRow, row_fields};
 ghost use Rattle.graph_model.specs.Entity.{edge_cmp};
 ghost use Rattle.graph_model.specs.Output.{world_row};
 ghost use Rattle.graph_model.specs.Presence.{edge_present as is_edge_present, edges};
 ghost use Rattle.graph_model.specs.RowText.{rows_text};
-ghost use Rattle.view_trait.specs.Meaning.{IsWithin, edge_named};
+ghost use Rattle.view_trait.specs.Meaning.{StepsWithin, edge_named};
 ghost use Rattle.view_answers.specs.Edges.{edge_names, edge_told};
-ghost use Rattle.view_answers.specs.Parts.{part_rows};
+ghost use Rattle.view_answers.specs.WorldPart.{part_rows};
 
-use crate::rows::{add_edge, add_world};
+use crate::answer_rows::{add_edge, add_world};
 use event_rows::RowWriter;
 use graph_model::{Bounds, Memory, Name};
 use graph_store::{EdgeId, Store};
@@ -65,7 +65,7 @@ fn push_present<'v, V: View, L: Ledger>(
 ) -> Result<(), Memory>
     requires { e.0 < length (V.contents view.now).edges }
     ensures names { OnOk result (map edge_told edges.new.items ≡ map edge_told edges.old.items ++ filter (is_edge_present (V.world view.now)) (edge_named (V.contents view.now) e.0 ∷ [])) }
-    ensures cost { (V.world view.now).model ≡ Instants → IsWithin steps.old steps.new (V.searches view.now).edges (length (V.contents view.now).accepted) }
+    ensures cost { (V.world view.now).model ≡ Instants → StepsWithin steps.old steps.new (V.searches view.now).edges (length (V.contents view.now).accepted) }
 {
     if edge_present(view, e, steps) {
         let edge = named_edge(view.store(), e);
@@ -82,7 +82,7 @@ fn listed_edges<'v, V: View, L: Ledger>(
     steps: &mut Steps<L>,
 ) -> Result<Vec<NamedEdge<'v>>, Memory>
     ensures names { IfOk result (λ listed. map edge_told listed.items ≡ filter (is_edge_present (V.world view.now)) (edge_names (V.contents view.now))) }
-    ensures cost { (V.world view.now).model ≡ Instants → IsWithin steps.old steps.new (length (V.contents view.now).edges * (V.searches view.now).edges) (length (V.contents view.now).accepted) }
+    ensures cost { (V.world view.now).model ≡ Instants → StepsWithin steps.old steps.new (length (V.contents view.now).edges * (V.searches view.now).edges) (length (V.contents view.now).accepted) }
 {
     let mut listed = Vec::new(alloc);
     for number in 0..view.store().edges() {
@@ -98,7 +98,7 @@ fn sorted_edges<'v, V: View, L: Ledger>(
     steps: &mut Steps<L>,
 ) -> Result<Vec<NamedEdge<'v>>, Memory>
     ensures names { IfOk result (λ sorted. map edge_told sorted.items ≡ edges (V.world view.now)) }
-    ensures cost { (V.world view.now).model ≡ Instants → IsWithin steps.old steps.new (length (V.contents view.now).edges * (V.searches view.now).edges) (length (V.contents view.now).accepted) }
+    ensures cost { (V.world view.now).model ≡ Instants → StepsWithin steps.old steps.new (length (V.contents view.now).edges * (V.searches view.now).edges) (length (V.contents view.now).accepted) }
 {
     let mut listed = listed_edges(alloc, view, steps)?;
     listed.sort_unstable_by(|a, b| compare_edges(a, b));
@@ -107,7 +107,7 @@ fn sorted_edges<'v, V: View, L: Ledger>(
 
 /// Adds the part of a world with these bounds whose answer has a row for each of some edges.
 fn add_listed(out: &mut RowWriter, bounds: Bounds, listed: &[NamedEdge<'_>]) -> Result<(), Memory>
-    ensures { OnOk result (out.new ≡ out.old ++ rows_text (world_row bounds (length listed.now) ∷ map row_fields (map (λ e. Linked (edge_told e)) listed.now))) }
+    ensures { OnOk result (out.new ≡ out.old ++ rows_text (world_row bounds (length listed.now) ∷ map row_fields (map (λ e. EdgeRow (edge_told e)) listed.now))) }
 {
     add_world(out, bounds, listed.len())?;
     for edge in listed {
@@ -123,8 +123,8 @@ pub fn add_edges<V: View, L: Ledger>(
     view: &V,
     steps: &mut Steps<L>,
 ) -> Result<(), Memory>
-    ensures rows { OnOk result (out.new ≡ out.old ++ rows_text (part_rows (V.world view.now) (map Linked (edges (V.world view.now))))) }
-    ensures cost { (V.world view.now).model ≡ Instants → IsWithin steps.old steps.new (length (V.contents view.now).edges * (V.searches view.now).edges) (length (V.contents view.now).accepted) }
+    ensures rows { OnOk result (out.new ≡ out.old ++ rows_text (part_rows (V.world view.now) (map EdgeRow (edges (V.world view.now))))) }
+    ensures cost { (V.world view.now).model ≡ Instants → StepsWithin steps.old steps.new (length (V.contents view.now).edges * (V.searches view.now).edges) (length (V.contents view.now).accepted) }
 {
     let sorted = sorted_edges(alloc, view, steps)?;
     add_listed(out, view.bounds(), sorted.as_slice())

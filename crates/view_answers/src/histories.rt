@@ -6,15 +6,15 @@ ghost use Rattle.graph_model.specs.RowText.{rows_text};
 ghost use Rattle.graph_model.specs.World.{events_of};
 ghost use Rattle.graph_model.specs.declared.events.Entity.TheVariants.{Node, Edge};
 ghost use Rattle.view_answers.specs.Moments.{moment_rows};
-ghost use Rattle.view_answers.specs.Parts.{part_rows};
+ghost use Rattle.view_answers.specs.WorldPart.{part_rows};
 
-use crate::rows::{add_moment, add_world};
+use crate::answer_rows::{add_moment, add_world};
 use event_rows::RowWriter;
 use graph_model::{Bounds, EdgeName, Memory, Name};
-use materialise::{Moments, edge_moments, node_moments};
 use std::alloc::Global;
 use std::sync::ledger::Ledger;
 use time_column::Steps;
+use view_lists::{Moments, edge_moments, node_moments};
 use view_trait::View;
 
 /// Adds the part of a world with these bounds whose answer has a row for each event of a history.

@@ -2,16 +2,16 @@
 ghost use Rattle.std.specs.Prelude.{◌≡◌, ◌<◌, ◌+◌, ◌*◌, [], ◌∷◌, ◌++◌, length, map, OnOk};
 ghost use Rattle.std.specs.List.{All};
 ghost use Rattle.graph_model.specs.declared.events.Model.TheVariants.{Event as Instants};
-ghost use Rattle.graph_model.specs.Answer.{Named, degree_row, extent_row, row_fields};
+ghost use Rattle.graph_model.specs.Answer.{NodeRow, degree_row, extent_row, row_fields};
 ghost use Rattle.graph_model.specs.Output.{world_row};
 ghost use Rattle.graph_model.specs.Presence.{nodes};
 ghost use Rattle.graph_model.specs.RowText.{rows_text};
 ghost use Rattle.graph_store.specs.Contents.{name_at};
-ghost use Rattle.view_trait.specs.Meaning.{IsWithin};
+ghost use Rattle.view_trait.specs.Meaning.{StepsWithin};
 ghost use Rattle.walk_algorithms.specs.Degrees.{degree_row_of};
-ghost use Rattle.view_answers.specs.Parts.{part_rows};
+ghost use Rattle.view_answers.specs.WorldPart.{part_rows};
 
-use crate::rows::{add_degree, add_extent, add_name, add_world};
+use crate::answer_rows::{add_degree, add_extent, add_name, add_world};
 use event_rows::RowWriter;
 use graph_model::{Bounds, Memory};
 use graph_store::Store;
@@ -29,7 +29,7 @@ fn add_names(
     rows: &DegreeRows,
 ) -> Result<(), Memory>
     requires { All (λ d. d.node.0 < length store.now.nodes) rows.now }
-    ensures { OnOk result (out.new ≡ out.old ++ rows_text (world_row bounds (length rows.now) ∷ map row_fields (map (λ d. Named (name_at store.now.nodes d.node.0)) rows.now))) }
+    ensures { OnOk result (out.new ≡ out.old ++ rows_text (world_row bounds (length rows.now) ∷ map row_fields (map (λ d. NodeRow (name_at store.now.nodes d.node.0)) rows.now))) }
 {
     add_world(out, bounds, rows.len())?;
     for i in 0..rows.len() {
@@ -63,8 +63,8 @@ pub fn add_nodes<V: View, L: Ledger>(
     view: &V,
     steps: &mut Steps<L>,
 ) -> Result<(), Memory>
-    ensures rows { OnOk result (out.new ≡ out.old ++ rows_text (part_rows (V.world view.now) (map Named (nodes (V.world view.now))))) }
-    ensures cost { (V.world view.now).model ≡ Instants → IsWithin steps.old steps.new (length (V.contents view.now).nodes * (V.searches view.now).nodes + length (V.contents view.now).edges * (V.searches view.now).edges) (length (V.contents view.now).accepted) }
+    ensures rows { OnOk result (out.new ≡ out.old ++ rows_text (part_rows (V.world view.now) (map NodeRow (nodes (V.world view.now))))) }
+    ensures cost { (V.world view.now).model ≡ Instants → StepsWithin steps.old steps.new (length (V.contents view.now).nodes * (V.searches view.now).nodes + length (V.contents view.now).edges * (V.searches view.now).edges) (length (V.contents view.now).accepted) }
 {
     let rows = degrees(alloc, view, Roster::All, steps)?;
     add_names(out, view.bounds(), view.store(), &rows)
@@ -78,7 +78,7 @@ pub fn add_node_degrees<V: View, L: Ledger>(
     steps: &mut Steps<L>,
 ) -> Result<(), Memory>
     ensures rows { OnOk result (out.new ≡ out.old ++ rows_text (part_rows (V.world view.now) (map (degree_row (V.world view.now)) (nodes (V.world view.now))))) }
-    ensures cost { (V.world view.now).model ≡ Instants → IsWithin steps.old steps.new (length (V.contents view.now).nodes * (V.searches view.now).nodes + length (V.contents view.now).edges * (V.searches view.now).edges) (length (V.contents view.now).accepted) }
+    ensures cost { (V.world view.now).model ≡ Instants → StepsWithin steps.old steps.new (length (V.contents view.now).nodes * (V.searches view.now).nodes + length (V.contents view.now).edges * (V.searches view.now).edges) (length (V.contents view.now).accepted) }
 {
     let rows = degrees(alloc, view, Roster::All, steps)?;
     add_degrees(out, view.bounds(), view.store(), &rows)

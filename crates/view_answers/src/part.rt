@@ -1,6 +1,6 @@
 //! The part of one world in the answer to a question.
 ghost use Rattle.std.specs.Prelude.{◌≡◌, true, OnOk};
-ghost use Rattle.view_answers.specs.Parts.{AddsPart};
+ghost use Rattle.view_answers.specs.WorldPart.{AddsPart};
 ghost use Rattle.view_answers.specs.Plain.{IsPaid, is_plain};
 
 use crate::edges::add_edges;

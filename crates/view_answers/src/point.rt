@@ -5,8 +5,8 @@ ghost use Rattle.graph_model.specs.Compare.{value_of};
 ghost use Rattle.graph_model.specs.Presence.{alive_at as is_alive_at};
 ghost use Rattle.graph_model.specs.World.{events_of};
 ghost use Rattle.graph_store.specs.Keys.{key_name};
-ghost use Rattle.view_trait.specs.Meaning.{IsWithin, edge_at, edge_named, node_at};
-ghost use Rattle.view_answers.specs.Point.{IsNumbered, IsPointAnswer, IsValueAnswer, searches_of};
+ghost use Rattle.view_trait.specs.Meaning.{StepsWithin, edge_at, edge_named, node_at};
+ghost use Rattle.view_answers.specs.Point.{IsKnownAsk, IsPointAnswer, IsValueAnswer, searches_of};
 
 use graph_model::Value;
 use graph_store::{EdgeId, NodeId};
@@ -46,7 +46,7 @@ fn node_value<'v, V: View, L: Ledger>(
     requires node { n.0 < length (V.contents view.now).nodes }
     requires key { key < length (V.contents view.now).node_keys }
     ensures value { option_copied result ≡ value_of (key_name (V.contents view.now).node_keys key) (events_of (V.world view.now) (node_at (V.contents view.now) n.0)) }
-    ensures cost { IsWithin steps.old steps.new (V.searches view.now).nodes (length (V.contents view.now).accepted) }
+    ensures cost { StepsWithin steps.old steps.new (V.searches view.now).nodes (length (V.contents view.now).accepted) }
 {
     let store = view.store();
     let span = view.node_span(n, steps);
@@ -63,7 +63,7 @@ fn edge_value<'v, V: View, L: Ledger>(
     requires edge { e.0 < length (V.contents view.now).edges }
     requires key { key < length (V.contents view.now).edge_keys }
     ensures value { option_copied result ≡ value_of (key_name (V.contents view.now).edge_keys key) (events_of (V.world view.now) (edge_at (V.contents view.now) e.0)) }
-    ensures cost { IsWithin steps.old steps.new (V.searches view.now).edges (length (V.contents view.now).accepted) }
+    ensures cost { StepsWithin steps.old steps.new (V.searches view.now).edges (length (V.contents view.now).accepted) }
 {
     let store = view.store();
     let span = view.edge_span(e, steps);
@@ -74,7 +74,7 @@ fn edge_value<'v, V: View, L: Ledger>(
 pub fn edge_alive<V: View, L: Ledger>(view: &V, e: EdgeId, m: i64, steps: &mut Steps<L>) -> bool
     requires { e.0 < length (V.contents view.now).edges }
     ensures alive { result ≡ is_alive_at (V.world view.now) (edge_named (V.contents view.now) e.0) m }
-    ensures cost { IsWithin steps.old steps.new ((V.searches view.now).edges + 1) (length (V.contents view.now).accepted) }
+    ensures cost { StepsWithin steps.old steps.new ((V.searches view.now).edges + 1) (length (V.contents view.now).accepted) }
 {
     let store = view.store();
     let span = view.edge_span(e, steps);
@@ -99,9 +99,9 @@ pub fn answer_point<'v, V: View, L: Ledger>(
     ask: PointAsk,
     steps: &mut Steps<L>,
 ) -> PointAnswer<'v>
-    requires { IsNumbered (V.contents view.now) ask }
+    requires { IsKnownAsk (V.contents view.now) ask }
     ensures answer { IsPointAnswer (V.contents view.now) (V.world view.now) ask result }
-    ensures cost { IsWithin steps.old steps.new (searches_of (V.searches view.now) ask) (length (V.contents view.now).accepted) }
+    ensures cost { StepsWithin steps.old steps.new (searches_of (V.searches view.now) ask) (length (V.contents view.now).accepted) }
 {
     match ask {
         PointAsk::NodeValue(n, key) => value_answer(node_value(view, n, key, steps)),

@@ -3,32 +3,33 @@ ghost use Rattle.std.specs.Prelude.{◌≡◌, ◌∷◌, [], ◌++◌, length, 
 ghost use Rattle.std.specs.List.{All};
 ghost use Rattle.csv.specs.Records.{fields_of, partial_of};
 ghost use Rattle.csv.specs.Writing.{default_writer, row_text};
-ghost use Rattle.graph_model.specs.Answer.{Recorded, Spanned, Typed, row_fields, world_rows};
+ghost use Rattle.graph_model.specs.Answer.{EventRow, SpanRow, TypeRow, row_fields, world_rows};
 ghost use Rattle.graph_model.specs.Record.{event_fields, prop_text};
 ghost use Rattle.graph_model.specs.RowText.{rows_text};
-ghost use Rattle.materialise.specs.Borrowed.{event_borrowed, props_borrowed};
-ghost use Rattle.materialise.specs.Listing.{IsPart, IsPlaced, event_placed};
-ghost use Rattle.materialise.specs.Types.{types_listed};
-ghost use Rattle.view_answers.specs.Parts.{part_rows};
+ghost use Rattle.view_lists.specs.Borrowed.{event_borrowed, props_borrowed};
+ghost use Rattle.view_lists.specs.Listing.{IsShownEntity, IsPlaced, event_placed};
+ghost use Rattle.view_lists.specs.Types.{types_listed};
+ghost use Rattle.view_answers.specs.WorldPart.{part_rows};
 ghost use Rattle.view_answers.specs.Records.{type_row};
 
-use crate::rows::add_world;
+use crate::answer_rows::add_world;
 use csv::ByteRecord;
 use event_rows::{
     RowWriter, add_property, set_addition, set_deletion, set_node, set_span, set_type,
 };
 use graph_model::{Bounds, Memory};
-use materialise::{
-    BorrowedEvent, EventPlace, Property, Shown, Subject, TypedNode, borrowed_event, list_whole,
-};
 use std::alloc::Global;
 use std::sync::ledger::Ledger;
 use time_column::Steps;
+use view_lists::{
+    BorrowedEvent, EventPlace, Property, ShownEntity, Subject, TypedNode, borrowed_event,
+    list_whole,
+};
 use view_trait::View;
 
 /// Adds the record of bounds.
 fn add_bounds(out: &mut RowWriter, row: &mut ByteRecord, bounds: Bounds) -> Result<(), Memory>
-    ensures { OnOk result (out.new ≡ out.old ++ row_text default_writer (row_fields (Spanned bounds))) }
+    ensures { OnOk result (out.new ≡ out.old ++ row_text default_writer (row_fields (SpanRow bounds))) }
 {
     set_span(row, bounds)?;
     out.add(row)
@@ -92,13 +93,13 @@ fn add_records<'s, V: View, L: Ledger>(
     out: &mut RowWriter,
     row: &mut ByteRecord,
     view: &'s V,
-    shown: &[Shown<'s>],
+    shown: &[ShownEntity<'s>],
     places: &[EventPlace],
     steps: &mut Steps<L>,
 ) -> Result<(), Memory>
-    requires parts { All (IsPart (V.contents view.now) (V.world view.now)) shown.now }
+    requires parts { All (IsShownEntity (V.contents view.now) (V.world view.now)) shown.now }
     requires placed { All (IsPlaced (V.world view.now) shown.now) places.now }
-    ensures { OnOk result (out.new ≡ out.old ++ rows_text (map row_fields (map (λ p. Recorded (event_placed (V.world view.now) shown.now p)) places.now))) }
+    ensures { OnOk result (out.new ≡ out.old ++ rows_text (map row_fields (map (λ p. EventRow (event_placed (V.world view.now) shown.now p)) places.now))) }
 {
     let mut text = Vec::new(alloc);
     let mut props = Vec::new(alloc);

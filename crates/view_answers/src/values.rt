@@ -1,7 +1,7 @@
 //! Values of nodes and edges, and whether edges are alive.
 ghost use Rattle.std.specs.Prelude.{◌≡◌, ◌∷◌, [], ◌++◌, length, map, OnOk};
 ghost use Rattle.std.specs.Option.{option_copied};
-ghost use Rattle.graph_model.specs.Answer.{Lives, row_fields, value_rows};
+ghost use Rattle.graph_model.specs.Answer.{AliveRow, row_fields, value_rows};
 ghost use Rattle.graph_model.specs.Compare.{value_of};
 ghost use Rattle.graph_model.specs.Output.{world_row};
 ghost use Rattle.graph_model.specs.Presence.{alive_at as is_alive_at};
@@ -9,12 +9,12 @@ ghost use Rattle.graph_model.specs.RowText.{rows_text};
 ghost use Rattle.graph_model.specs.World.{events_of};
 ghost use Rattle.graph_model.specs.declared.events.Entity.TheVariants.{Node, Edge};
 ghost use Rattle.graph_model.specs.declared.queries.Ask.TheVariants.{NodeValue, EdgeValue, EdgeAlive};
-ghost use Rattle.view_trait.specs.Meaning.{IsWithin, knows};
-ghost use Rattle.view_answers.specs.Parts.{part_rows};
+ghost use Rattle.view_trait.specs.Meaning.{StepsWithin, knows};
+ghost use Rattle.view_answers.specs.WorldPart.{part_rows};
 ghost use Rattle.view_answers.specs.Costs.{known_searches};
 
+use crate::answer_rows::{add_alive, add_value, add_world};
 use crate::point::edge_alive;
-use crate::rows::{add_alive, add_value, add_world};
 use event_rows::RowWriter;
 use graph_model::{Bounds, EdgeName, Memory, Name, Value};
 use std::alloc::Global;
@@ -30,7 +30,7 @@ fn value_of_node<'v, V: View, L: Ledger>(
     steps: &mut Steps<L>,
 ) -> Option<&'v Value>
     ensures value { option_copied result ≡ value_of key.now (events_of (V.world view.now) (Node node.now)) }
-    ensures cost { IsWithin steps.old steps.new (known_searches (knows (V.contents view.now)) (V.searches view.now) (NodeValue node.now key.now)) (length (V.contents view.now).accepted) }
+    ensures cost { StepsWithin steps.old steps.new (known_searches (knows (V.contents view.now)) (V.searches view.now) (NodeValue node.now key.now)) (length (V.contents view.now).accepted) }
 {
     let store = view.store();
     let n = store.node_of(node)?;
@@ -48,7 +48,7 @@ fn value_of_edge<'v, V: View, L: Ledger>(
     steps: &mut Steps<L>,
 ) -> Option<&'v Value>
     ensures value { option_copied result ≡ value_of key.now (events_of (V.world view.now) (Edge edge.now)) }
-    ensures cost { IsWithin steps.old steps.new (known_searches (knows (V.contents view.now)) (V.searches view.now) (EdgeValue edge.now key.now)) (length (V.contents view.now).accepted) }
+    ensures cost { StepsWithin steps.old steps.new (known_searches (knows (V.contents view.now)) (V.searches view.now) (EdgeValue edge.now key.now)) (length (V.contents view.now).accepted) }
 {
     let store = view.store();
     let e = store.edge_of(edge)?;
@@ -61,7 +61,7 @@ fn value_of_edge<'v, V: View, L: Ledger>(
 /// Whether an edge is alive at a moment, by its name. An unknown one never is.
 fn alive_edge<V: View, L: Ledger>(view: &V, edge: &EdgeName, m: i64, steps: &mut Steps<L>) -> bool
     ensures alive { result ≡ is_alive_at (V.world view.now) edge.now m }
-    ensures cost { IsWithin steps.old steps.new (known_searches (knows (V.contents view.now)) (V.searches view.now) (EdgeAlive edge.now m)) (length (V.contents view.now).accepted) }
+    ensures cost { StepsWithin steps.old steps.new (known_searches (knows (V.contents view.now)) (V.searches view.now) (EdgeAlive edge.now m)) (length (V.contents view.now).accepted) }
 {
     match view.store().edge_of(edge) {
         Some(e) => edge_alive(view, e, m, steps),
@@ -97,7 +97,7 @@ pub fn add_node_value<V: View, L: Ledger>(
     steps: &mut Steps<L>,
 ) -> Result<(), Memory>
     ensures rows { OnOk result (out.new ≡ out.old ++ rows_text (part_rows (V.world view.now) (value_rows (value_of key.now (events_of (V.world view.now) (Node node.now)))))) }
-    ensures cost { IsWithin steps.old steps.new (known_searches (knows (V.contents view.now)) (V.searches view.now) (NodeValue node.now key.now)) (length (V.contents view.now).accepted) }
+    ensures cost { StepsWithin steps.old steps.new (known_searches (knows (V.contents view.now)) (V.searches view.now) (NodeValue node.now key.now)) (length (V.contents view.now).accepted) }
 {
     let value = value_of_node(view, node, key, steps);
     add_found(alloc, out, view.bounds(), value)
@@ -113,7 +113,7 @@ pub fn add_edge_value<V: View, L: Ledger>(
     steps: &mut Steps<L>,
 ) -> Result<(), Memory>
     ensures rows { OnOk result (out.new ≡ out.old ++ rows_text (part_rows (V.world view.now) (value_rows (value_of key.now (events_of (V.world view.now) (Edge edge.now)))))) }
-    ensures cost { IsWithin steps.old steps.new (known_searches (knows (V.contents view.now)) (V.searches view.now) (EdgeValue edge.now key.now)) (length (V.contents view.now).accepted) }
+    ensures cost { StepsWithin steps.old steps.new (known_searches (knows (V.contents view.now)) (V.searches view.now) (EdgeValue edge.now key.now)) (length (V.contents view.now).accepted) }
 {
     let value = value_of_edge(view, edge, key, steps);
     add_found(alloc, out, view.bounds(), value)
@@ -127,8 +127,8 @@ pub fn add_edge_alive<V: View, L: Ledger>(
     m: i64,
     steps: &mut Steps<L>,
 ) -> Result<(), Memory>
-    ensures rows { OnOk result (out.new ≡ out.old ++ rows_text (part_rows (V.world view.now) (Lives (is_alive_at (V.world view.now) edge.now m) ∷ []))) }
-    ensures cost { IsWithin steps.old steps.new (known_searches (knows (V.contents view.now)) (V.searches view.now) (EdgeAlive edge.now m)) (length (V.contents view.now).accepted) }
+    ensures rows { OnOk result (out.new ≡ out.old ++ rows_text (part_rows (V.world view.now) (AliveRow (is_alive_at (V.world view.now) edge.now m) ∷ []))) }
+    ensures cost { StepsWithin steps.old steps.new (known_searches (knows (V.contents view.now)) (V.searches view.now) (EdgeAlive edge.now m)) (length (V.contents view.now).accepted) }
 {
     let alive = alive_edge(view, edge, m, steps);
     add_world(out, view.bounds(), 1)?;

@@ -2,42 +2,42 @@
 use Rattle.std.proofs.Common.{◌≡◌, ℕ, ◌+◌, ◌-◌, ◌*◌, ◌≤◌, subst, sym, ap, ◌∙◌, arith}
 use Rattle.graph_model.specs.Searches.{digits}
 use Rattle.world_laws.proofs.Digits.{digits-le}
-use Rattle.view_trait.specs.Meaning.{IsWithin}
+use Rattle.view_trait.specs.Meaning.{StepsWithin}
 
 -- searches, and then some more among no more events
-pub IsWithin-more : (before between after searches more among m : ℕ) → IsWithin before between searches among → after ≤ between + more * (digits m + 1) → m ≤ among → IsWithin before after (searches + more) among
-IsWithin-more before between after searches more among m h k l =
+pub StepsWithin-more : (before between after searches more among m : ℕ) → StepsWithin before between searches among → after ≤ between + more * (digits m + 1) → m ≤ among → StepsWithin before after (searches + more) among
+StepsWithin-more before between after searches more among m h k l =
     let d = digits-le m among l in grind arith
 
 -- searches among no more events
-pub IsWithin-among : (before after searches among more : ℕ) → IsWithin before after searches among → among ≤ more → IsWithin before after searches more
-IsWithin-among before after searches among more h l =
+pub StepsWithin-among : (before after searches among more : ℕ) → StepsWithin before after searches among → among ≤ more → StepsWithin before after searches more
+StepsWithin-among before after searches among more h l =
     let d = digits-le among more l in grind arith
 
 -- searches one after another
-pub IsWithin-then : (before between after first second among : ℕ) → IsWithin before between first among → IsWithin between after second among → IsWithin before after (second + first) among
-IsWithin-then before between after first second among h k = grind arith
+pub StepsWithin-then : (before between after first second among : ℕ) → StepsWithin before between first among → StepsWithin between after second among → StepsWithin before after (second + first) among
+StepsWithin-then before between after first second among h k = grind arith
 
 -- fewer searches
-pub IsWithin-fewer : (before after searches more among : ℕ) → IsWithin before after searches among → IsWithin before after (more + searches) among
-IsWithin-fewer before after searches more among h = grind arith
+pub StepsWithin-fewer : (before after searches more among : ℕ) → StepsWithin before after searches among → StepsWithin before after (more + searches) among
+StepsWithin-fewer before after searches more among h = grind arith
 
 -- ---- searches that are made for each of some
 
 more_times : (a b s : ℕ) → a * s + b * s ≡ (a + b) * s
 more_times a b s = grind arith
 
-pub IsWithin-times : (before after a b s among : ℕ) → a ≤ b → IsWithin before after (a * s) among → IsWithin before after (b * s) among
-IsWithin-times before after a b s among l h =
+pub StepsWithin-times : (before after a b s among : ℕ) → a ≤ b → StepsWithin before after (a * s) among → StepsWithin before after (b * s) among
+StepsWithin-times before after a b s among l h =
     let e : (b - a) + a ≡ b = omega arith in
-    subst (λ n. IsWithin before after n among) (more_times (b - a) a s ∙ ap (λ n. n * s) e) (IsWithin-fewer before after (a * s) ((b - a) * s) among h)
+    subst (λ n. StepsWithin before after n among) (more_times (b - a) a s ∙ ap (λ n. n * s) e) (StepsWithin-fewer before after (a * s) ((b - a) * s) among h)
 
 -- one more of them, of which there were some left
-pub IsWithin-each : (before between after all left rest s among : ℕ) → left ≡ rest + 1 → left ≤ all → IsWithin before between ((all - left) * s) among → IsWithin between after s among → IsWithin before after ((all - rest) * s) among
-IsWithin-each before between after all left rest s among e l h k =
+pub StepsWithin-each : (before between after all left rest s among : ℕ) → left ≡ rest + 1 → left ≤ all → StepsWithin before between ((all - left) * s) among → StepsWithin between after s among → StepsWithin before after ((all - rest) * s) among
+StepsWithin-each before between after all left rest s among e l h k =
     let one : 1 * s ≡ s = omega arith in
     let more : 1 + (all - left) ≡ all - rest = omega (arith, e) in
-    subst (λ n. IsWithin before after n among) (ap (λ n. n + (all - left) * s) (sym one) ∙ (more_times 1 (all - left) s ∙ ap (λ n. n * s) more)) (IsWithin-then before between after ((all - left) * s) s among h k)
+    subst (λ n. StepsWithin before after n among) (ap (λ n. n + (all - left) * s) (sym one) ∙ (more_times 1 (all - left) s ∙ ap (λ n. n * s) more)) (StepsWithin-then before between after ((all - left) * s) s among h k)
 
 -- one more span, of which two times are read
 pub spans_more : (before between after n s d : ℕ) → between ≤ before + (n * s) * d + 2 * n → after ≤ between + s * d + 2 → after ≤ before + ((n + 1) * s) * d + 2 * (n + 1)

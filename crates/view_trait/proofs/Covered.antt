@@ -15,7 +15,7 @@ use Rattle.graph_model.specs.World.{World, IsLawful, events_of}
 use Rattle.world_laws.proofs.Windows.{events_of-window}
 use Rattle.world_laws.proofs.Kept.{about-kept, clip_nothing}
 use Rattle.graph_store.specs.Contents.{Contents}
-use Rattle.view_trait.specs.Covered.{Covers, edge_count, edges_on, node_count, nodes_on}
+use Rattle.view_trait.specs.Coverage.{Covers, edge_count_on, edges_on, node_count_on, nodes_on}
 use Rattle.view_trait.specs.Meaning.{node_at, edge_at, edge_named}
 use Rattle.view_trait.specs.Numbered.{is_listed}
 use Rattle.view_trait.specs.declared.rosters.Roster.{Roster}
@@ -44,11 +44,11 @@ range_place n i below =
     first = omega arith
 
 -- as many numbers as there are nodes on it, and edges
-pub length-nodes_on : (c : Contents) (r : Roster) → length (nodes_on c r) ≡ node_count c r
+pub length-nodes_on : (c : Contents) (r : Roster) → length (nodes_on c r) ≡ node_count_on c r
 length-nodes_on c Whole = length-range_with_len 0 (length c.nodes)
 length-nodes_on c (Only nodes edges) = refl
 
-pub length-edges_on : (c : Contents) (r : Roster) → length (edges_on c r) ≡ edge_count c r
+pub length-edges_on : (c : Contents) (r : Roster) → length (edges_on c r) ≡ edge_count_on c r
 length-edges_on c Whole = length-range_with_len 0 (length c.edges)
 length-edges_on c (Only nodes edges) = refl
 

@@ -17,10 +17,10 @@ use Rattle.graph_model.specs.Names.{same_name}
 use Rattle.graph_model.specs.Interval.{Interval, cut, is_empty, earliest, latest}
 use Rattle.graph_model.specs.Props.{KeysRise, prop_value}
 use Rattle.graph_model.specs.Entity.{entity_of, is_node, is_about, about, props_of}
-use Rattle.graph_model.specs.Compare.{live, last_value, value_of}
+use Rattle.graph_model.specs.Compare.{live_events, last_value, value_of}
 use Rattle.graph_model.specs.Accepting.{key_names}
 use Rattle.graph_model.specs.World.{World, IsLawful, event_cmp, events_of}
-use Rattle.graph_model.specs.Window.{window, carried, last_props, is_early, is_within, clip_list}
+use Rattle.graph_model.specs.Window.{window, carried_events, last_props, is_early, is_within, clip_list}
 use Rattle.graph_model.specs.Keep.{keep, in_layers, outside_layers, among_nodes, apart_from_nodes, among_types, edge_holds, node_holds, is_valid}
 use Rattle.graph_model.specs.Stack.{view, apply}
 use Rattle.std.specs.Prelude.{pos, ◌+ℤ◌, not}
@@ -29,7 +29,7 @@ use Rattle.world_laws.proofs.InOrder.{each_in_order}
 use Rattle.world_laws.proofs.Listed.{about-arrange}
 use Rattle.world_laws.proofs.Order.{same_entity-exact}
 use Rattle.world_laws.proofs.Carried.{each_live, props-update_of}
-use Rattle.world_laws.proofs.Named.{named-window_list, named-filter}
+use Rattle.world_laws.proofs.Named.{names_node-window_list, names_node-filter}
 use Rattle.world_laws.proofs.Values.{last_props_value}
 use Rattle.world_laws.proofs.Windows.{events_of-window}
 use Rattle.graph_store.specs.Contents.{Contents, base_of}
@@ -48,9 +48,9 @@ last_none key xs h = ap (last_or None) (none_mapped key xs h)
 
 -- an entity whose events give a key no value has none
 pub value_none : (key : List ℕ) (xs : List Event) → LacksKey key xs → value_of key xs ≡ None
-value_none key xs h = last_none key (live xs) (each_live (λ (x : Event). prop_value key (props_of x) ≡ None) xs h)
+value_none key xs h = last_none key (live_events xs) (each_live (λ (x : Event). prop_value key (props_of x) ≡ None) xs h)
 
-carried_lacks : (key : List ℕ) (lo : ℤ) (xs : List Event) → AllByRecursion (λ (x : Event). KeysRise (props_of x)) xs → LacksKey key xs → LacksKey key (carried lo xs)
+carried_lacks : (key : List ℕ) (lo : ℤ) (xs : List Event) → AllByRecursion (λ (x : Event). KeysRise (props_of x)) xs → LacksKey key xs → LacksKey key (carried_events lo xs)
 carried_lacks key lo [] r h = tt
 carried_lacks key lo (x ∷ xs) r h = (ap (prop_value key) (props-update_of (entity_of x) (last_props (x ∷ xs))) ∙ (last_props_value key (x ∷ xs) r ∙ last_none key (x ∷ xs) h), tt)
 
@@ -60,9 +60,9 @@ clip_lacks key Persistent i xs r h =
     let lacks = λ (x : Event). prop_value key (props_of x) ≡ None in
     let rises = λ (x : Event). KeysRise (props_of x) in
     let early = filter (is_early i) xs in
-    cond_both (is_empty i) [] (carried i.lo (live early) ++ filter (is_within i) xs) (LacksKey key) (λ e. tt)
-    (λ e. each_append lacks (carried i.lo (live early)) (filter (is_within i) xs)
-    (carried_lacks key i.lo (live early) (each_live rises early (each_kept rises (is_early i) xs r)) (each_live lacks early (each_kept lacks (is_early i) xs h)))
+    cond_both (is_empty i) [] (carried_events i.lo (live_events early) ++ filter (is_within i) xs) (LacksKey key) (λ e. tt)
+    (λ e. each_append lacks (carried_events i.lo (live_events early)) (filter (is_within i) xs)
+    (carried_lacks key i.lo (live_events early) (each_live rises early (each_kept rises (is_early i) xs r)) (each_live lacks early (each_kept lacks (is_early i) xs h)))
     (each_kept lacks (is_within i) xs h))
 
 none_lacks : (key : List ℕ) (ps : List (List ℕ × Value)) → list_any (same_name key) (map (λ (p : List ℕ × Value). p.0) ps) ≡ false → prop_value key ps ≡ None
@@ -114,7 +114,7 @@ window_lacks key w a b e h k =
 pub IsDrawn-window : (c : Contents) (w : World) (a b : ℤ) → IsDrawn c w → IsDrawn c (window w a b)
 IsDrawn-window c w a b h = record {
   shown = IsShown-window c w a b h.shown;
-  nodes = λ name e. h.nodes name (named-window_list w.model (cut w.bounds a b) w.events name e);
+  nodes = λ name e. h.nodes name (names_node-window_list w.model (cut w.bounds a b) w.events name e);
   node_keys = λ key name e. window_lacks key w a b (Node name) h.shown.lawful (h.node_keys key name e);
   edge_keys = λ key edge e. window_lacks key w a b (Edge edge) h.shown.lawful (h.edge_keys key edge e);
 }
@@ -125,7 +125,7 @@ keep_lacks key p w e h = subst (LacksKey key) (sym (events_of-keep p w e)) (cond
 pub IsDrawn-keep : (p : Entity → Bool) (c : Contents) (w : World) → IsDrawn c w → IsDrawn c (keep p w)
 IsDrawn-keep p c w h = record {
   shown = IsShown-keep p c w h.shown;
-  nodes = λ name e. h.nodes name (named-filter (λ (x : Event). p (entity_of x)) w.events name e);
+  nodes = λ name e. h.nodes name (names_node-filter (λ (x : Event). p (entity_of x)) w.events name e);
   node_keys = λ key name e. keep_lacks key p w (Node name) (h.node_keys key name e);
   edge_keys = λ key edge e. keep_lacks key p w (Edge edge) (h.edge_keys key edge e);
 }

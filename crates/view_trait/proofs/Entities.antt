@@ -18,7 +18,7 @@ use Rattle.world_laws.proofs.Order.{event_total, same_entity-exact, same_name-re
 use Rattle.world_laws.proofs.Listed.{about-arrange, fixed_by_entities}
 use Rattle.world_laws.proofs.Carried.{about_one}
 use Rattle.graph_store.specs.declared.edges.EdgeParts.{EdgeParts}
-use Rattle.graph_store.specs.Parts.{same_parts, parts_at}
+use Rattle.graph_store.specs.EdgeParts.{same_parts, parts_at}
 use Rattle.graph_store.specs.Contents.{Contents, edge_name, node_entities, edge_entities}
 use Rattle.graph_store.specs.Indexed.{IsIndexed}
 use Rattle.graph_store.proofs.Listed.{one_place}

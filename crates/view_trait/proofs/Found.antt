@@ -16,11 +16,11 @@ use Rattle.graph_model.specs.World.{World, event_cmp, events_of}
 use Rattle.world_laws.proofs.Counts.{length_filter_le, length_in_order}
 use Rattle.time_history.specs.declared.updates.Update.{Update}
 use Rattle.time_history.specs.declared.span.Span.{Span}
-use Rattle.time_history.specs.Told.{event_told, events_told, Fits}
+use Rattle.time_history.specs.Telling.{event_told, events_told, Fits}
 use Rattle.time_history.specs.declared.updates.Kind.{Kind}
-use Rattle.time_history.specs.Asked.{kind_of, IsLastKind}
+use Rattle.time_history.specs.Asked.{kind_of_event, IsLastKind}
 use Rattle.time_history.specs.Spans.{IsSpan, IsTaken, spelled}
-use Rattle.graph_store.specs.Parts.{parts_at}
+use Rattle.graph_store.specs.EdgeParts.{parts_at}
 use Rattle.graph_store.specs.Keys.{key_name}
 use Rattle.graph_store.specs.Contents.{Contents, name_at, edge_name, base_of, key_names_for}
 use Rattle.view_trait.specs.Meaning.{IsShown, Tells, Shows, node_at, edge_at}
@@ -74,15 +74,15 @@ pub spelled_is : (c : Contents) (w : World) (x : Entity) (us : List Update) (s :
 spelled_is c w x us s t h = ap (λ es. spell es s.from s.to s.carried w.bounds.lo) t.told ∙ h.spells
 
 -- the kind of an entity's last event in the world
-pub last_kind_is : (c : Contents) (w : World) (x : Entity) (us : List Update) (s : Span) (kind : Option Kind) → Tells c x us → Shows c w x s → IsLastKind us s kind → kind ≡ option_map (λ (y : Event). kind_of y.what) (last_or None (events_of w x))
-last_kind_is c w x us s kind t h k = k x (key_names_for c x) w.bounds.lo t.fits ∙ ap (λ es. option_map (λ (y : Event). kind_of y.what) (last_or None es)) (spelled_is c w x us s t h)
+pub last_kind_is : (c : Contents) (w : World) (x : Entity) (us : List Update) (s : Span) (kind : Option Kind) → Tells c x us → Shows c w x s → IsLastKind us s kind → kind ≡ option_map (λ (y : Event). kind_of_event y.what) (last_or None (events_of w x))
+last_kind_is c w x us s kind t h k = k x (key_names_for c x) w.bounds.lo t.fits ∙ ap (λ es. option_map (λ (y : Event). kind_of_event y.what) (last_or None es)) (spelled_is c w x us s t h)
 
 is_some-map : {A B : Type 0} (f : A → B) (o : Option A) → is_some (option_map f o) ≡ is_some o
 is_some-map f None = refl
 is_some-map f (Some x) = refl
 
 pub has_last : (c : Contents) (w : World) (x : Entity) (us : List Update) (s : Span) (kind : Option Kind) → Tells c x us → Shows c w x s → IsLastKind us s kind → is_some kind ≡ is_some (last_or None (events_of w x))
-has_last c w x us s kind t h k = ap is_some (last_kind_is c w x us s kind t h k) ∙ is_some-map (λ (y : Event). kind_of y.what) (last_or None (events_of w x))
+has_last c w x us s kind t h k = ap is_some (last_kind_is c w x us s kind t h k) ∙ is_some-map (λ (y : Event). kind_of_event y.what) (last_or None (events_of w x))
 
 some_last : {A : Type 0} (y : A) (xs : List A) → is_some (last_or (Some y) xs) ≡ true
 some_last y [] = refl

@@ -17,7 +17,7 @@ use Rattle.graph_model.specs.Keep.{keep, is_named, in_layers, outside_layers}
 use Rattle.graph_model.specs.World.{World, remake}
 use Rattle.world_laws.proofs.Filters.{filter_same, each_weaker}
 use Rattle.world_laws.proofs.Order.{same_name-exact, same_name-refl}
-use Rattle.graph_store.specs.Parts.{parts_at}
+use Rattle.graph_store.specs.EdgeParts.{parts_at}
 use Rattle.graph_store.specs.Contents.{Contents, name_at}
 use Rattle.graph_store.specs.Indexed.{IsIndexed}
 use Rattle.view_trait.specs.Meaning.{IsShown, knows, node_at, edge_at}

@@ -18,12 +18,12 @@ use Rattle.time_history.proofs.Segments.{each_in_map}
 use Rattle.graph_store.specs.declared.pairs.Ends.{Ends}
 use Rattle.graph_store.specs.Places.{places_from, places}
 use Rattle.graph_store.specs.Ends.{same_ends, ends_at}
-use Rattle.graph_store.specs.Paired.{pairs_from, pairs_to}
+use Rattle.graph_store.specs.PairIndex.{pairs_from, pairs_to}
 use Rattle.graph_store.specs.Contents.{Contents, name_at}
 use Rattle.graph_store.specs.Indexed.{IsIndexed}
 use Rattle.graph_store.proofs.Listed.{one_place}
 use Rattle.view_trait.specs.Meaning.{IsShown}
-use Rattle.view_trait.specs.Present.{pair_leads, AreNeighbours, ends_left, is_new_start, starts_left, numbers_left, ArePairs, IsWalk}
+use Rattle.view_trait.specs.Present.{pair_leads, AreNeighbours, ends_left, is_new_start, starts_left, numbers_left, ArePairs, IsNeighbourWalk}
 use Rattle.view_trait.proofs.Pairs.{each_place_from, each_place, at_zero, places_found, places_any, no_ends, same_number, ends_same, pair_of_edge, pairs_from_within, pairs_to_within}
 
 -- ---- lists without repeats
@@ -273,11 +273,11 @@ asked c pairs ps e h = λ x m. let same : ps ≡ x = cc in subst (AllByRecursion
 unasked : (c : Contents) (pairs : Option (List ℕ)) → pairs ≡ None → ArePairs c pairs
 unasked c pairs e = λ x m. absurd (let no : None ≡ Some x = sym e ∙ m in cc)
 
-pub IsWalk-outward : (c : Contents) (n : ℕ) (out into : Option (List ℕ)) → n < length c.nodes → out ≡ Some (pairs_from c.pairs n) → into ≡ None → IsWalk c n out into
-IsWalk-outward c n out into known from none = record { node = known; out = asked c out (pairs_from c.pairs n) from (pairs_from_within c n); into = unasked c into none }
+pub IsNeighbourWalk-outward : (c : Contents) (n : ℕ) (out into : Option (List ℕ)) → n < length c.nodes → out ≡ Some (pairs_from c.pairs n) → into ≡ None → IsNeighbourWalk c n out into
+IsNeighbourWalk-outward c n out into known from none = record { node = known; out = asked c out (pairs_from c.pairs n) from (pairs_from_within c n); into = unasked c into none }
 
-pub IsWalk-inward : (c : Contents) (n : ℕ) (out into : Option (List ℕ)) → n < length c.nodes → out ≡ None → into ≡ Some (pairs_to c.pairs n) → IsWalk c n out into
-IsWalk-inward c n out into known none to = record { node = known; out = unasked c out none; into = asked c into (pairs_to c.pairs n) to (pairs_to_within c n) }
+pub IsNeighbourWalk-inward : (c : Contents) (n : ℕ) (out into : Option (List ℕ)) → n < length c.nodes → out ≡ None → into ≡ Some (pairs_to c.pairs n) → IsNeighbourWalk c n out into
+IsNeighbourWalk-inward c n out into known none to = record { node = known; out = unasked c out none; into = asked c into (pairs_to c.pairs n) to (pairs_to_within c n) }
 
-pub IsWalk-both_ways : (c : Contents) (n : ℕ) (out into : Option (List ℕ)) → n < length c.nodes → out ≡ Some (pairs_from c.pairs n) → into ≡ Some (pairs_to c.pairs n) → IsWalk c n out into
-IsWalk-both_ways c n out into known from to = record { node = known; out = asked c out (pairs_from c.pairs n) from (pairs_from_within c n); into = asked c into (pairs_to c.pairs n) to (pairs_to_within c n) }
+pub IsNeighbourWalk-both_ways : (c : Contents) (n : ℕ) (out into : Option (List ℕ)) → n < length c.nodes → out ≡ Some (pairs_from c.pairs n) → into ≡ Some (pairs_to c.pairs n) → IsNeighbourWalk c n out into
+IsNeighbourWalk-both_ways c n out into known from to = record { node = known; out = asked c out (pairs_from c.pairs n) from (pairs_from_within c n); into = asked c into (pairs_to c.pairs n) to (pairs_to_within c n) }

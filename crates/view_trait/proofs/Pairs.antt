@@ -27,9 +27,9 @@ use Rattle.graph_store.specs.declared.pairs.Ends.{Ends}
 use Rattle.graph_store.specs.declared.edges.EdgeParts.{EdgeParts}
 use Rattle.graph_store.specs.Places.{places_from, places}
 use Rattle.graph_store.specs.Ends.{same_ends, ends_at}
-use Rattle.graph_store.specs.Parts.{ends_of, parts_at}
-use Rattle.graph_store.specs.Paired.{pairs_from, pairs_to}
-use Rattle.graph_store.specs.Linked.{edges_between}
+use Rattle.graph_store.specs.EdgeParts.{ends_of, parts_at}
+use Rattle.graph_store.specs.PairIndex.{pairs_from, pairs_to}
+use Rattle.graph_store.specs.EdgeIndex.{edges_between}
 use Rattle.graph_store.specs.Contents.{Contents, name_at, edge_name}
 use Rattle.graph_store.specs.Indexed.{IsIndexed}
 use Rattle.graph_store.proofs.Listed.{one_place, list_any-place}

@@ -20,7 +20,7 @@ use Rattle.graph_model.specs.Names.{same_name}
 use Rattle.graph_model.specs.Entity.{entity_of, is_about}
 use Rattle.graph_model.specs.Compare.{value_of, holds}
 use Rattle.graph_model.specs.Accepting.{key_names, node_events, edge_events}
-use Rattle.graph_model.specs.World.{World, named, events_of, remake, types_in}
+use Rattle.graph_model.specs.World.{World, names_node, events_of, remake, types_in}
 use Rattle.graph_model.specs.Keep.{keep, is_named, in_layers, outside_layers, among_nodes, apart_from_nodes, has_type, among_types, edge_holds, node_holds}
 use Rattle.graph_model.specs.Stack.{view, apply}
 use Rattle.world_laws.proofs.Filters.{filter_same, filter_again, each_weaker}
@@ -29,7 +29,7 @@ use Rattle.world_laws.proofs.Listed.{each_any, has_event}
 use Rattle.world_laws.proofs.Named.{among_types_same}
 use Rattle.world_laws.proofs.Order.{same_name-exact, same_entity-refl}
 use Rattle.time_history.proofs.Held.{each_at}
-use Rattle.graph_store.specs.Parts.{parts_at}
+use Rattle.graph_store.specs.EdgeParts.{parts_at}
 use Rattle.graph_store.specs.Keys.{key_name}
 use Rattle.graph_store.specs.Contents.{Contents, name_at, base_of}
 use Rattle.graph_store.specs.Indexed.{IsIndexed}
@@ -121,7 +121,7 @@ each_has_event (x ∷ xs) = (
 )
 
 types_are : (c : Contents) (w : World) → IsDrawn c w → w.types ≡ types_in w.events c.types
-types_are c w h = h.shown.types ∙ filter_again (λ (t : List ℕ × List ℕ). named (base_of c).events t.0) (λ (t : List ℕ × List ℕ). named w.events t.0) (λ t e. h.nodes t.0 e) c.types
+types_are c w h = h.shown.types ∙ filter_again (λ (t : List ℕ × List ℕ). names_node (base_of c).events t.0) (λ (t : List ℕ × List ℕ). names_node w.events t.0) (λ t e. h.nodes t.0 e) c.types
 
 types_of_store : (c : Contents) (names : List (List ℕ)) (w : World) → IsDrawn c w → keep (among_types w.types names) w ≡ keep (among_types c.types names) w
 types_of_store c names w h =

@@ -6,7 +6,7 @@ use Rattle.graph_model.specs.declared.events.Event.{Event}
 use Rattle.graph_model.specs.declared.events.Model.{Model}
 use Rattle.graph_model.specs.Interval.{Interval, cut, is_empty}
 use Rattle.graph_model.specs.Entity.{entity_of}
-use Rattle.graph_model.specs.World.{World, named, events_of, types_in}
+use Rattle.graph_model.specs.World.{World, names_node, events_of, types_in}
 use Rattle.graph_model.specs.Window.{window, window_list, clip_list}
 use Rattle.graph_model.specs.Keep.{keep}
 use Rattle.graph_model.specs.Spell.{spell}
@@ -14,11 +14,11 @@ use Rattle.world_laws.proofs.Windows.{events_of-window}
 use Rattle.world_laws.proofs.Lawful.{IsLawful-window, IsLawful-keep}
 use Rattle.world_laws.proofs.Kept.{about-kept, clip_nothing}
 use Rattle.world_laws.proofs.Filters.{each_kept}
-use Rattle.world_laws.proofs.Named.{each_entity_window, remake_twice, named-window_list, named-filter}
+use Rattle.world_laws.proofs.Named.{each_entity_window, remake_twice, names_node-window_list, names_node-filter}
 use Rattle.world_laws.proofs.Times.{cut_lo_above, cut_hi_below}
 use Rattle.time_history.specs.declared.updates.Update.{Update}
 use Rattle.time_history.specs.declared.span.Span.{Span}
-use Rattle.time_history.specs.Spans.{IsSpan, IsTaken, IsPart, IsClipped}
+use Rattle.time_history.specs.Spans.{IsSpan, IsTaken, IsEmptyOrInside, IsClipped}
 use Rattle.graph_store.specs.Contents.{Contents, base_of, key_names_for}
 use Rattle.view_trait.specs.Meaning.{IsShown, Tells, Shows, HasLayers, edge_at, knows}
 use Rattle.view_trait.proofs.Told.{same_spans, same_taken}
@@ -26,7 +26,7 @@ use Rattle.view_trait.proofs.Told.{same_spans, same_taken}
 -- ---- windows
 
 -- the types of a world that names no more nodes
-types_remade : (c : Contents) (w : World) (i : Interval) (ys : List Event) → w.types ≡ types_in w.events (base_of c).types → ((n : List ℕ) → named ys n ≡ true → named w.events n ≡ true)
+types_remade : (c : Contents) (w : World) (i : Interval) (ys : List Event) → w.types ≡ types_in w.events (base_of c).types → ((n : List ℕ) → names_node ys n ≡ true → names_node w.events n ≡ true)
     → types_in ys w.types ≡ types_in ys (base_of c).types
 types_remade c w i ys h k = ap (types_in ys) h ∙ ap (λ (v : World). v.types) (remake_twice (base_of c) i i w.events ys k)
 
@@ -37,7 +37,7 @@ IsShown-window c w a b h = record {
   model = h.model;
   lawful = IsLawful-window w a b h.lawful;
   known = each_entity_window (λ e. knows c e ≡ true) w.model (cut w.bounds a b) w.events h.known;
-  types = types_remade c w w.bounds (window_list w.model (cut w.bounds a b) w.events) h.types (named-window_list w.model (cut w.bounds a b) w.events);
+  types = types_remade c w w.bounds (window_list w.model (cut w.bounds a b) w.events) h.types (names_node-window_list w.model (cut w.bounds a b) w.events);
 }
 
 pub HasLayers-window : (c : Contents) (w : World) (a b : ℤ) (kept : ℕ) → IsShown c w → HasLayers c w kept → HasLayers c (window w a b) kept
@@ -71,10 +71,10 @@ Shows-clipped c w a b x us s r model bounds i shown m n e tells h span taken cli
     (subst (λ j. IsTaken w.model j us r) same (subst (λ k. IsTaken k i us r) (sym m) taken))
     (subst (λ j. IsClipped w.model w.bounds j us s r) same (subst (λ j. IsClipped w.model j i us s r) (sym n) (subst (λ k. IsClipped k bounds i us s r) (sym m) clipped)))
 
-pub IsPart-cut : (i : Interval) (a b : ℤ) → IsPart i (cut i a b)
-IsPart-cut i a b = part (is_empty (cut i a b)) refl
+pub IsEmptyOrInside-cut : (i : Interval) (a b : ℤ) → IsEmptyOrInside i (cut i a b)
+IsEmptyOrInside-cut i a b = part (is_empty (cut i a b)) refl
   where
-    part : (t : Bool) → is_empty (cut i a b) ≡ t → IsPart i (cut i a b)
+    part : (t : Bool) → is_empty (cut i a b) ≡ t → IsEmptyOrInside i (cut i a b)
     part true e = inl e
     part false e = inr (cut_lo_above i a b, cut_hi_below i a b e)
 
@@ -94,7 +94,7 @@ IsShown-keep p c w h = record {
   model = h.model;
   lawful = IsLawful-keep p w h.lawful;
   known = each_kept (λ (x : Event). knows c (entity_of x) ≡ true) (λ (x : Event). p (entity_of x)) w.events h.known;
-  types = types_remade c w w.bounds (filter (λ (x : Event). p (entity_of x)) w.events) h.types (named-filter (λ (x : Event). p (entity_of x)) w.events);
+  types = types_remade c w w.bounds (filter (λ (x : Event). p (entity_of x)) w.events) h.types (names_node-filter (λ (x : Event). p (entity_of x)) w.events);
 }
 
 pub HasLayers-keep : (p : Entity → Bool) (c : Contents) (w : World) (kept : ℕ) → HasLayers c w kept → HasLayers c (keep p w) kept

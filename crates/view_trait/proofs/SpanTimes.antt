@@ -3,14 +3,14 @@ use Rattle.std.proofs.Common.{◌≡◌, ℕ, ◌+◌, ◌-◌, ◌<◌, ◌≤�
 use Rattle.std.proofs.lemmas.List.{length-map, length-take, length-drop}
 use Rattle.graph_model.specs.declared.events.Entity.{Entity}
 use Rattle.graph_model.specs.declared.events.Event.{Event}
-use Rattle.graph_model.specs.Compare.{live}
+use Rattle.graph_model.specs.Compare.{live_events}
 use Rattle.graph_model.specs.Entity.{update_of}
-use Rattle.graph_model.specs.Window.{carried, last_props}
+use Rattle.graph_model.specs.Window.{carried_events, last_props}
 use Rattle.graph_model.specs.Windows.{last_time}
 use Rattle.time_history.specs.declared.updates.Update.{Update}
 use Rattle.time_history.specs.declared.span.Span.{Span}
 use Rattle.time_history.specs.Updates.{update_at}
-use Rattle.time_history.specs.Told.{event_told, events_told, Fits}
+use Rattle.time_history.specs.Telling.{event_told, events_told, Fits}
 use Rattle.time_history.specs.Spans.{IsSpan, spelled}
 use Rattle.time_history.proofs.Segments.{slice_split, slice_map, slice_nothing}
 use Rattle.time_history.proofs.Alive.{slice_one}
@@ -40,7 +40,7 @@ module _ (x : Entity) (names : ℕ → List ℕ) (us : List Update) (s : Span) (
   events = events_told x names us
 
   abbrev head : List Event
-  head = cond s.carried (carried lo (live (take s.from events))) []
+  head = cond s.carried (carried_events lo (live_events (take s.from events))) []
 
   one_told : (k : ℕ) → k < length us → slice_range events k (k + 1) ≡ event_told x names (update_at us k) ∷ []
   one_told k lt = slice_map (event_told x names) us k (k + 1) ∙ ap (map (event_told x names)) (slice_one us k lt)
@@ -58,16 +58,16 @@ module _ (x : Entity) (names : ℕ → List ℕ) (us : List Update) (s : Span) (
       ∙ ap (λ ys. slice_range events s.from (s.to - 1) ++ ys) (ap (slice_range events (s.to - 1)) next ∙ one_told (s.to - 1) (omega arith))
 
   abbrev carried_first : Event
-  carried_first = record { time = lo; order = 0; what = update_of x (last_props (live (take s.from events))) }
+  carried_first = record { time = lo; order = 0; what = update_of x (last_props (live_events (take s.from events))) }
 
   head_carried : s.carried ≡ true → head ≡ carried_first ∷ []
   head_carried e =
       let order = span.order in
       let end = span.end in
-      ap (λ b. cond b (carried lo (live (take s.from events))) []) e ∙ carried_one x names us fit s.from (omega arith) (span.carried e) lo
+      ap (λ b. cond b (carried_events lo (live_events (take s.from events))) []) e ∙ carried_one x names us fit s.from (omega arith) (span.carried e) lo
 
   head_nothing : s.carried ≡ false → head ≡ []
-  head_nothing e = ap (λ b. cond b (carried lo (live (take s.from events))) []) e
+  head_nothing e = ap (λ b. cond b (carried_events lo (live_events (take s.from events))) []) e
 
   pub first_carried : s.carried ≡ true → time_of_first (spelled x names us s lo) ≡ Some lo
   first_carried e = ap (λ ys. time_of_first (ys ++ slice_range events s.from s.to)) (head_carried e)

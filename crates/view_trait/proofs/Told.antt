@@ -11,7 +11,7 @@ use Rattle.time_history.specs.declared.updates.Update.{Update}
 use Rattle.time_history.specs.declared.span.Span.{Span}
 use Rattle.time_history.specs.Kinds.{is_delete}
 use Rattle.time_history.specs.Updates.{update_at, no_update}
-use Rattle.time_history.specs.Told.{event_told, events_told, named, Fits}
+use Rattle.time_history.specs.Telling.{event_told, events_told, with_key_names, Fits}
 use Rattle.time_history.specs.Spans.{carries, IsSpan, IsCut, IsTaken}
 use Rattle.time_history.proofs.Clips.{deletes-told}
 
@@ -36,8 +36,8 @@ module _ (x : Entity) (names : ℕ → List ℕ) (us vs : List Update) (told : e
   same_kind : (k : ℕ) → k < length us → is_delete (update_at us k).kind ≡ is_delete (update_at vs k).kind
   same_kind k lt =
       let there : k < length vs = omega (arith, same_length) in
-      sym (deletes-told x (update_at us k).kind (named names (update_at us k).props) (fit k no_update lt))
-      ∙ (ap is_deletion (same_event k lt) ∙ deletes-told x (update_at vs k).kind (named names (update_at vs k).props) (fit_too k no_update there))
+      sym (deletes-told x (update_at us k).kind (with_key_names names (update_at us k).props) (fit k no_update lt))
+      ∙ (ap is_deletion (same_event k lt) ∙ deletes-told x (update_at vs k).kind (with_key_names names (update_at vs k).props) (fit_too k no_update there))
 
   same_carries : (model : Model) (from : ℕ) → from ≤ length us → carries model us from ≡ carries model vs from
   same_carries Instants from le = refl

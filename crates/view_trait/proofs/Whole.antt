@@ -10,19 +10,19 @@ use Rattle.graph_model.specs.declared.events.Entity.{Entity}
 use Rattle.graph_model.specs.declared.events.Entity.TheVariants.{Node, Edge}
 use Rattle.graph_model.specs.declared.events.Event.{Event}
 use Rattle.graph_model.specs.Entity.{entity_of, is_about, about, involves, same_entity}
-use Rattle.graph_model.specs.World.{World, IsLawful, event_cmp, events_of, arrange, named, type_of, types_in}
+use Rattle.graph_model.specs.World.{World, IsLawful, event_cmp, events_of, arrange, names_node, type_of, types_in}
 use Rattle.world_laws.proofs.Filters.{filter_none, filter_again}
 use Rattle.world_laws.proofs.InOrder.{each_in_order}
 use Rattle.world_laws.proofs.Order.{same_entity-refl}
 use Rattle.world_laws.proofs.Named.{each_fails}
 use Rattle.time_history.specs.declared.updates.Update.{Update}
 use Rattle.time_history.specs.declared.span.Span.{Span}
-use Rattle.time_history.specs.Told.{event_told}
+use Rattle.time_history.specs.Telling.{event_told}
 use Rattle.time_history.specs.Spans.{IsSpan, IsTaken}
-use Rattle.graph_store.specs.Parts.{parts_at}
+use Rattle.graph_store.specs.EdgeParts.{parts_at}
 use Rattle.graph_store.specs.Contents.{Contents, base_of, key_names_for}
 use Rattle.graph_store.specs.Indexed.{IsIndexed}
-use Rattle.graph_store.specs.Histories.{whole_of}
+use Rattle.graph_store.specs.Histories.{span_of_all}
 use Rattle.view_trait.proofs.Told.{same_spans, same_taken}
 use Rattle.view_trait.specs.Meaning.{IsShown, Tells, Shows, HasLayers, knows}
 
@@ -36,20 +36,20 @@ or_false : (b c : Bool) → (b || c) ≡ false → c ≡ false
 or_false true c k = cc
 or_false false c k = k
 
-none_first : (name : List ℕ) (x : Event) (xs : List Event) → about (Node name) xs ≡ [] → named (x ∷ xs) name ≡ false → (b : Bool) → same_entity (Node name) (entity_of x) ≡ b → about (Node name) (x ∷ xs) ≡ []
-none_first name x xs rest h true e = absurd (let no : true ≡ false = sym (ap (λ b. b || named xs name) (about_involves name (entity_of x) e)) ∙ h in cc)
+none_first : (name : List ℕ) (x : Event) (xs : List Event) → about (Node name) xs ≡ [] → names_node (x ∷ xs) name ≡ false → (b : Bool) → same_entity (Node name) (entity_of x) ≡ b → about (Node name) (x ∷ xs) ≡ []
+none_first name x xs rest h true e = absurd (let no : true ≡ false = sym (ap (λ b. b || names_node xs name) (about_involves name (entity_of x) e)) ∙ h in cc)
 none_first name x xs rest h false e = ap (λ b. cond b (x ∷ about (Node name) xs) (about (Node name) xs)) e ∙ rest
 
-none_about : (name : List ℕ) (xs : List Event) → named xs name ≡ false → about (Node name) xs ≡ []
+none_about : (name : List ℕ) (xs : List Event) → names_node xs name ≡ false → about (Node name) xs ≡ []
 none_about name [] h = refl
-none_about name (x ∷ xs) h = none_first name x xs (none_about name xs (or_false (involves name (entity_of x)) (named xs name) h)) h (same_entity (Node name) (entity_of x)) refl
+none_about name (x ∷ xs) h = none_first name x xs (none_about name xs (or_false (involves name (entity_of x)) (names_node xs name) h)) h (same_entity (Node name) (entity_of x)) refl
 
 or_first : (b c : Bool) → (b || c) ≡ false → b ≡ false
 or_first true c k = cc
 or_first false c k = refl
 
 unknown : (c : Contents) (x : Entity) → IsIndexed c → knows c x ≡ false → about x c.accepted ≡ []
-unknown c (Node name) k h = none_about name c.accepted (or_first (named c.accepted name) (is_some (type_of c.types name)) (sym (k.known_nodes name) ∙ h))
+unknown c (Node name) k h = none_about name c.accepted (or_first (names_node c.accepted name) (is_some (type_of c.types name)) (sym (k.known_nodes name) ∙ h))
 unknown c (Edge edge) k h = filter_none (is_about (Edge edge)) c.accepted (each_fails (is_about (Edge edge)) c.accepted (sym (k.known_edges edge) ∙ h))
 
 -- where entities that fail a test have no event, each event passes it
@@ -69,7 +69,7 @@ each_known test (x ∷ xs) h = (
     later e false t none = sym (ap (λ b. cond b (x ∷ about e xs) (about e xs)) t) ∙ none
 
 types_again : (xs : List Event) (types : List (List ℕ × List ℕ)) → types_in xs types ≡ types_in xs (types_in xs types)
-types_again xs types = sym (filter_again (λ (t : List ℕ × List ℕ). named xs t.0) (λ (t : List ℕ × List ℕ). named xs t.0) (λ t e. e) types)
+types_again xs types = sym (filter_again (λ (t : List ℕ × List ℕ). names_node xs t.0) (λ (t : List ℕ × List ℕ). names_node xs t.0) (λ t e. e) types)
 
 pub IsShown-base : (c : Contents) → IsLawful (base_of c) → IsIndexed c → length c.layers ≤ 64 → IsShown c (base_of c)
 IsShown-base c h k few = record {
@@ -96,12 +96,12 @@ HasLayers-all c w h = record {
 slice_whole : {X : Type 0} (xs : List X) (n : ℕ) → n ≡ length xs → slice_range xs 0 n ≡ xs
 slice_whole xs n e = let k : n - 0 ≡ length xs = omega (arith, e) in ap (λ m. take m xs) k ∙ take-length xs
 
-whole_span : (us : List Update) → IsSpan us (whole_of us)
+whole_span : (us : List Update) → IsSpan us (span_of_all us)
 whole_span us = record { order = omega arith; end = omega arith; carried = λ f. cc }
 
-pub Shows-whole : (c : Contents) (x : Entity) (us : List Update) (s : Span) → Tells c x us → s ≡ whole_of us → IsTaken c.model c.bounds us (whole_of us) → Shows c (base_of c) x s
+pub Shows-whole : (c : Contents) (x : Entity) (us : List Update) (s : Span) → Tells c x us → s ≡ span_of_all us → IsTaken c.model c.bounds us (span_of_all us) → Shows c (base_of c) x s
 Shows-whole c x us s t is taken = subst (Shows c (base_of c) x) (sym is) (record {
-  span = λ vs k. same_spans x (key_names_for c x) us vs (t.told ∙ sym k.told) t.fits k.fits (whole_of us) (whole_span us);
-  taken = λ vs k. same_taken x (key_names_for c x) us vs (t.told ∙ sym k.told) t.fits k.fits c.model c.bounds (whole_of us) (whole_span us) taken;
+  span = λ vs k. same_spans x (key_names_for c x) us vs (t.told ∙ sym k.told) t.fits k.fits (span_of_all us) (whole_span us);
+  taken = λ vs k. same_taken x (key_names_for c x) us vs (t.told ∙ sym k.told) t.fits k.fits c.model c.bounds (span_of_all us) (whole_span us) taken;
   spells = slice_whole (events_of (base_of c) x) (length us) (sym (length-map us (event_told x (key_names_for c x))) ∙ ap length t.told);
 })

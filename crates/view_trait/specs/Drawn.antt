@@ -9,7 +9,7 @@ use Rattle.graph_model.specs.Entity.{props_of}
 use Rattle.graph_model.specs.Props.{prop_value}
 use Rattle.graph_model.specs.Accepting.{key_names, node_events, edge_events}
 use Rattle.graph_model.specs.Keep.{is_named}
-use Rattle.graph_model.specs.World.{World, named, events_of}
+use Rattle.graph_model.specs.World.{World, names_node, events_of}
 use Rattle.graph_store.specs.Contents.{Contents, name_at, base_of}
 use Rattle.view_trait.specs.Meaning.{IsShown}
 
@@ -20,7 +20,7 @@ LacksKey key xs = AllByRecursion (λ (x : Event). prop_value key (props_of x) �
 -- a world over a store whose events name only nodes that the accepted events name, and set only keys that these set
 pub record IsDrawn (c : Contents) (w : World) : Type 0 where
   pub shown : IsShown c w
-  pub nodes : (name : List ℕ) → named w.events name ≡ true → named (base_of c).events name ≡ true
+  pub nodes : (name : List ℕ) → names_node w.events name ≡ true → names_node (base_of c).events name ≡ true
   pub node_keys : (key name : List ℕ) → list_any (same_name key) (key_names (node_events c.accepted)) ≡ false → LacksKey key (events_of w (Node name))
   pub edge_keys : (key : List ℕ) (edge : EdgeName) → list_any (same_name key) (key_names (edge_events c.accepted)) ≡ false → LacksKey key (events_of w (Edge edge))
 

@@ -5,4 +5,4 @@ pub mod Filtered
 pub mod Ready
 pub mod Extent
 pub mod Drawn
-pub mod Covered
+pub mod Coverage

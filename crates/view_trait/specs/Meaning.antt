@@ -13,9 +13,9 @@ use Rattle.graph_model.specs.Searches.{digits}
 use Rattle.graph_model.specs.Spell.{spell}
 use Rattle.time_history.specs.declared.updates.Update.{Update}
 use Rattle.time_history.specs.declared.span.Span.{Span}
-use Rattle.time_history.specs.Told.{events_told, Fits}
+use Rattle.time_history.specs.Telling.{events_told, Fits}
 use Rattle.time_history.specs.Spans.{IsSpan, IsTaken}
-use Rattle.graph_store.specs.Parts.{parts_at}
+use Rattle.graph_store.specs.EdgeParts.{parts_at}
 use Rattle.graph_store.specs.Contents.{Contents, name_at, edge_name, edge_entities, base_of, key_names_for}
 use Rattle.graph_store.specs.Indexed.{IsIndexed}
 
@@ -59,5 +59,5 @@ pub record HasLayers (c : Contents) (w : World) (kept : ℕ) : Type 0 where
   pub none : (e : ℕ) → e < length c.edges → bit_at kept (parts_at c.edges e).layer ≡ 0 → events_of w (edge_at c e) ≡ []
 
 -- steps from before to after are at most so many searches among so many events
-abbrev pub IsWithin : ℕ → ℕ → ℕ → ℕ → Type 0
-IsWithin before after searches among = after ≤ before + searches * (digits among + 1)
+abbrev pub StepsWithin : ℕ → ℕ → ℕ → ℕ → Type 0
+StepsWithin before after searches among = after ≤ before + searches * (digits among + 1)

@@ -9,7 +9,7 @@ use Rattle.graph_model.specs.World.{World}
 use Rattle.graph_model.specs.Neighbours.{leads}
 use Rattle.graph_store.specs.declared.walks.NodeId.{NodeId}
 use Rattle.graph_store.specs.Ends.{ends_at}
-use Rattle.graph_store.specs.Linked.{edges_between}
+use Rattle.graph_store.specs.EdgeIndex.{edges_between}
 use Rattle.graph_store.specs.Contents.{Contents, name_at}
 
 -- whether a present edge leads from the source of a pair to its destination
@@ -58,11 +58,11 @@ abbrev pub ArePairs : Contents → Option (List ℕ) → Type 0
 ArePairs c pairs = ForSome pairs (AllByRecursion (λ p. p < length c.pairs))
 
 -- what walks along chains of pairs for the neighbours of a node of a store
-pub record IsWalk (c : Contents) (n : ℕ) (begun ended : Option (List ℕ)) : Type 0 where
+pub record IsNeighbourWalk (c : Contents) (n : ℕ) (begun ended : Option (List ℕ)) : Type 0 where
   pub node : n < length c.nodes
   pub out : ArePairs c begun
   pub into : ArePairs c ended
 
 -- the first of what was left, or nothing where nothing was
-abbrev pub IsNext : List ℕ → List ℕ → Option NodeId → Type 0
-IsNext before after next = MatchOption next ((before ≡ []) × (after ≡ [])) (λ n. before ≡ n.0 ∷ after)
+abbrev pub IsNextNeighbour : List ℕ → List ℕ → Option NodeId → Type 0
+IsNextNeighbour before after next = MatchOption next ((before ≡ []) × (after ≡ [])) (λ n. before ≡ n.0 ∷ after)

@@ -4,7 +4,7 @@ ghost use Rattle.graph_model.specs.World.{events_of};
 ghost use Rattle.graph_model.specs.Searches.{digits};
 ghost use Rattle.graph_model.specs.declared.events.Entity.{Entity};
 ghost use Rattle.time_history.specs.Spans.{IsSpan, spelled};
-ghost use Rattle.time_history.specs.Told.{Fits};
+ghost use Rattle.time_history.specs.Telling.{Fits};
 ghost use Rattle.view_trait.specs.Extent.{extent_of, time_of_first, time_of_last, earlier_of, later_of, span_searches};
 ghost use Rattle.view_trait.specs.Meaning.{node_at, edge_at};
 

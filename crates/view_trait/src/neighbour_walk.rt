@@ -3,7 +3,7 @@ ghost use Rattle.std.specs.Prelude.{◌≡◌, ◌<◌, length};
 ghost use Rattle.graph_model.specs.declared.queries.Direction.TheVariants.{Outward};
 ghost use Rattle.graph_model.specs.Neighbours.{leads};
 ghost use Rattle.graph_store.specs.Contents.{name_at};
-ghost use Rattle.view_trait.specs.Present.{AreNeighbours, is_new_start, out_left, into_left, ArePairs, IsNext};
+ghost use Rattle.view_trait.specs.Present.{AreNeighbours, is_new_start, out_left, into_left, ArePairs, IsNextNeighbour};
 
 use crate::presence::pair_present;
 use crate::view::View;
@@ -26,13 +26,13 @@ pub struct NeighbourWalk<'v, V: View> {
 
 impl<'v, V: View> Model for NeighbourWalk<'v, V> {
     ghost use Rattle.std.specs.Prelude.{ℕ, List};
-    ghost use Rattle.view_trait.specs.Present.{numbers_left, IsWalk};
+    ghost use Rattle.view_trait.specs.Present.{numbers_left, IsNeighbourWalk};
 
     ghost Value = { List ℕ };
 
     ghost view = { λ w. numbers_left (V.contents w.view.now) (V.world w.view.now) w.node.0 w.both w.out w.into };
 
-    ghost invariant = { λ w. IsWalk (V.contents w.view.now) w.node.0 w.out w.into };
+    ghost invariant = { λ w. IsNeighbourWalk (V.contents w.view.now) w.node.0 w.out w.into };
 }
 
 impl<V: View> Drop for NeighbourWalk<'_, V> {
@@ -71,7 +71,7 @@ impl<V: View> NeighbourWalk<'_, V> {
     /// The next neighbour, or nothing once all were given. No clause bounds its steps: it asks the
     /// pairs that are left until one is present.
     pub fn next<L: Ledger>(&mut self, steps: &mut Steps<L>) -> Option<NodeId>
-        ensures { IsNext self.old self.new result }
+        ensures { IsNextNeighbour self.old self.new result }
     {
         match next_end(self.view, &mut self.out, steps) {
             Some(end) => Some(end),
@@ -87,7 +87,7 @@ fn next_end<V: View, L: Ledger>(
     steps: &mut Steps<L>,
 ) -> Option<NodeId>
     requires { ArePairs (V.contents view.now) out.old }
-    ensures next { IsNext (out_left (V.contents view.now) (V.world view.now) out.old) (out_left (V.contents view.now) (V.world view.now) out.new) result }
+    ensures next { IsNextNeighbour (out_left (V.contents view.now) (V.world view.now) out.old) (out_left (V.contents view.now) (V.world view.now) out.new) result }
     ensures pairs { ArePairs (V.contents view.now) out.new }
 {
     let Some(pairs) = out else {
@@ -112,7 +112,7 @@ fn next_start<V: View, L: Ledger>(
 ) -> Option<NodeId>
     requires node { n.0 < length (V.contents view.now).nodes }
     requires pairs { ArePairs (V.contents view.now) into.old }
-    ensures next { IsNext (into_left (V.contents view.now) (V.world view.now) n.0 both into.old) (into_left (V.contents view.now) (V.world view.now) n.0 both into.new) result }
+    ensures next { IsNextNeighbour (into_left (V.contents view.now) (V.world view.now) n.0 both into.old) (into_left (V.contents view.now) (V.world view.now) n.0 both into.new) result }
     ensures pairs { ArePairs (V.contents view.now) into.new }
 {
     let Some(pairs) = into else {

@@ -1,12 +1,12 @@
 //! What a view shows as present.
-ghost use Rattle.std.specs.Prelude.{◌≡◌, ◌<◌, ◌||◌, length};
+ghost use Rattle.std.specs.Prelude.{◌≡◌, ◌<◌, ◌||◌, ◌*◌, length};
 ghost use Rattle.std.specs.List.{AllByRecursion, list_any};
 ghost use Rattle.graph_model.specs.Entity.{is_about};
 ghost use Rattle.graph_model.specs.declared.events.Model.TheVariants.{Event as Instants};
 ghost use Rattle.graph_model.specs.Presence.{edge_present as is_edge_present, node_present as is_node_present};
-ghost use Rattle.graph_store.specs.Paired.{pairs_from, pairs_to};
+ghost use Rattle.graph_store.specs.PairIndex.{pairs_from, pairs_to};
 ghost use Rattle.graph_store.specs.Contents.{name_at};
-ghost use Rattle.view_trait.specs.Meaning.{IsWithin, node_at, edge_named};
+ghost use Rattle.view_trait.specs.Meaning.{StepsWithin, node_at, edge_named};
 ghost use Rattle.view_trait.specs.Present.{pair_leads, any_pair_leads, edge_count};
 
 use crate::view::View;
@@ -18,7 +18,7 @@ use time_column::Steps;
 pub fn edge_present<V: View, L: Ledger>(view: &V, e: EdgeId, steps: &mut Steps<L>) -> bool
     requires { e.0 < length (V.contents view.now).edges }
     ensures present { result ≡ is_edge_present (V.world view.now) (edge_named (V.contents view.now) e.0) }
-    ensures cost { (V.world view.now).model ≡ Instants → IsWithin steps.old steps.new (V.searches view.now).edges (length (V.contents view.now).accepted) }
+    ensures cost { (V.world view.now).model ≡ Instants → StepsWithin steps.old steps.new (V.searches view.now).edges (length (V.contents view.now).accepted) }
 {
     let store = view.store();
     let span = view.edge_span(e, steps);
@@ -32,7 +32,7 @@ pub fn edge_present<V: View, L: Ledger>(view: &V, e: EdgeId, steps: &mut Steps<L
 pub fn pair_present<V: View, L: Ledger>(view: &V, p: PairId, steps: &mut Steps<L>) -> bool
     requires { p.0 < length (V.contents view.now).pairs }
     ensures present { result ≡ pair_leads (V.contents view.now) (V.world view.now) p.0 }
-    ensures cost { let c = V.contents view.now in (V.world view.now).model ≡ Instants → IsWithin steps.old steps.new (edge_count c p.0 * (V.searches view.now).edges) (length c.accepted) }
+    ensures cost { let c = V.contents view.now in (V.world view.now).model ≡ Instants → StepsWithin steps.old steps.new (edge_count c p.0 * (V.searches view.now).edges) (length c.accepted) }
 {
     let mut edges = view.store().edges_of(p);
     while let Some(e) = edges.next() {
@@ -73,7 +73,7 @@ pub fn has_event<V: View, L: Ledger>(view: &V, n: NodeId, steps: &mut Steps<L>) 
     ensures event { let node = node_at (V.contents view.now) n.0 in
         result ≡ list_any (is_about node) (V.world view.now).events }
     ensures cost { let among = length (V.contents view.now).accepted in
-        IsWithin steps.old steps.new (V.searches view.now).nodes among }
+        StepsWithin steps.old steps.new (V.searches view.now).nodes among }
 {
     let store = view.store();
     let span = view.node_span(n, steps);

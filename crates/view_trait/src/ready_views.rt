@@ -3,7 +3,7 @@ ghost use Rattle.std.specs.Prelude.{◌≡◌, ℕ, ◌<◌, List, true, length,
 ghost use Rattle.std.specs.List.{list_all};
 ghost use Rattle.graph_model.specs.Keep.{has_type};
 ghost use Rattle.graph_model.specs.Range.{op_in_range};
-ghost use Rattle.graph_model.specs.Searches.{kind_of};
+ghost use Rattle.graph_model.specs.Searches.{kind_of_view};
 ghost use Rattle.graph_model.specs.Stack.{view as view_of, apply};
 ghost use Rattle.graph_model.specs.World.{World};
 ghost use Rattle.graph_store.specs.Contents.{name_at, base_of};
@@ -90,7 +90,7 @@ fn ready_op(alloc: Global, store: &Store, op: &Op) -> Result<ReadyOp, Memory>
     requires { op_in_range op.now ≡ true }
     ensures view { IfOk result (λ ready. (w : World) → IsDrawn store.now w → ready_view store.now w ready ≡ view_of w op.now) }
     ensures in_range { IfOk result (λ ready. in_range ready ≡ true) }
-    ensures kind { IfOk result (λ ready. ready_kind ready ≡ kind_of op.now) }
+    ensures kind { IfOk result (λ ready. ready_kind ready ≡ kind_of_view op.now) }
 {
     match op {
         Op::Window(from, to) => Ok(ReadyOp::Window(*from, *to)),
@@ -120,7 +120,7 @@ pub fn ready(alloc: Global, store: &Store, views: &OpList) -> Result<ReadyOps, M
     // So it is with each world that shows what the accepted events say.
     ensures world { IfOk result (λ ops. (w : World) → IsDrawn store.now w → ready_apply store.now ops w ≡ apply views.now w) }
     ensures in_range { IfOk result (λ ops. list_all in_range ops ≡ true) }
-    ensures kinds { IfOk result (λ ops. map ready_kind ops ≡ map kind_of views.now) }
+    ensures kinds { IfOk result (λ ops. map ready_kind ops ≡ map kind_of_view views.now) }
 {
     store_facts(store);
     let mut ops = ReadyOps::new(alloc);

@@ -5,7 +5,7 @@ ghost use Rattle.graph_model.specs.Window.{window};
 ghost use Rattle.graph_model.specs.World.{World, IsLawful};
 ghost use Rattle.graph_model.specs.declared.events.Entity.{Entity};
 ghost use Rattle.graph_store.specs.Contents.{Contents};
-ghost use Rattle.view_trait.specs.Covered.{Covers};
+ghost use Rattle.view_trait.specs.Coverage.{Covers};
 ghost use Rattle.view_trait.specs.declared.rosters.Roster.{Roster};
 ghost use Rattle.view_trait.specs.declared.rosters.Roster.TheVariants.{All as Whole};
 

@@ -2,7 +2,7 @@
 ghost use Rattle.std.specs.Prelude.{◌≡◌, ◌<◌, [], length, slice_get, Some, OnOk, OnErr};
 ghost use Rattle.std.specs.Ordering.{nat_cmp};
 ghost use Rattle.graph_model.specs.Rising.{put_rising};
-ghost use Rattle.view_trait.specs.Covered.{edge_count, edges_on, node_count, nodes_on};
+ghost use Rattle.view_trait.specs.Coverage.{edge_count_on, edges_on, node_count_on, nodes_on};
 
 use crate::numbers::NodeList;
 use graph_model::Memory;
@@ -85,8 +85,8 @@ pub enum Roster<'r> {
 
 impl Roster<'_> {
     /// How many nodes are on it, of those that a store has where it has all.
-    pub fn node_count(self, store: &Store) -> usize
-        ensures { result ≡ node_count store.now self.entry }
+    pub fn node_count_on(self, store: &Store) -> usize
+        ensures { result ≡ node_count_on store.now self.entry }
     {
         match self {
             Roster::All => store.nodes() as usize,
@@ -95,8 +95,8 @@ impl Roster<'_> {
     }
 
     /// How many edges are on it, of those that a store has where it has all.
-    pub fn edge_count(self, store: &Store) -> usize
-        ensures { result ≡ edge_count store.now self.entry }
+    pub fn edge_count_on(self, store: &Store) -> usize
+        ensures { result ≡ edge_count_on store.now self.entry }
     {
         match self {
             Roster::All => store.edges() as usize,
@@ -106,7 +106,7 @@ impl Roster<'_> {
 
     /// The number of the node at a place of it, counted from 0.
     pub fn node(self, store: &Store, i: usize) -> NodeId
-        requires { i < node_count store.now self }
+        requires { i < node_count_on store.now self }
         ensures { slice_get (nodes_on store.now self.entry) i ≡ Some result.0 }
     {
         match self {
@@ -120,7 +120,7 @@ impl Roster<'_> {
 
     /// The number of the edge at a place of it, counted from 0.
     pub fn edge(self, store: &Store, i: usize) -> EdgeId
-        requires { i < edge_count store.now self }
+        requires { i < edge_count_on store.now self }
         ensures { slice_get (edges_on store.now self.entry) i ≡ Some result.0 }
     {
         match self {

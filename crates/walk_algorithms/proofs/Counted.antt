@@ -13,13 +13,13 @@ use Rattle.graph_store.specs.Ends.{ends_at}
 use Rattle.present_links.specs.declared.link_list.Link.{Link}
 use Rattle.walk_algorithms.specs.declared.ways.Ways.{Ways}
 use Rattle.present_links.specs.Links.{links_from, links_to, leads_back, alone_among}
-use Rattle.walk_algorithms.specs.Counted.{AreFew, AreWays, IsCounted, IsJoined, between, joined, plus, ways_of}
+use Rattle.walk_algorithms.specs.Counted.{AreFew, AreWays, CountsWays, IsJoined, between, ways_after, plus, ways_of}
 use Rattle.present_links.specs.Links.{ends_in, link_ends}
 use Rattle.walk_algorithms.specs.Paired.{next_back, turned, ArePaired, NoneFar}
 use Rattle.walk_algorithms.proofs.Paired.{back_here, back_next, cut_one, cut_two, link_at, next_apart, next_is, NoneCut}
 
 -- no link is counted before the first
-pub counted_none : (links : List Ends) → IsCounted links (take 0 links) []
+pub counted_none : (links : List Ends) → CountsWays links (take 0 links) []
 counted_none links n = record { ins = refl; outs = refl; alone = refl }
 
 -- one where a test passes
@@ -105,9 +105,9 @@ module _ (links : List Ends) (h : ArePaired links) (i : ℕ) (below : i < length
   back_is : back ≡ (next_back links i || (here.src == here.dst))
   back_is = back_here links h i below cut far
 
-  module _ (before : List (ℕ × Ways)) (counted : IsCounted links (take i links) before) where
+  module _ (before : List (ℕ × Ways)) (counted : CountsWays links (take i links) before) where
     -- the ways of a node after a link is counted with its way back
-    ways_more : (n : ℕ) → AreWays links (take (next_place links i) links) n (joined here.src here.dst true back n (ways_of before n))
+    ways_more : (n : ℕ) → AreWays links (take (next_place links i) links) n (ways_after here.src here.dst true back n (ways_of before n))
     ways_more n =
         let was = counted n in
         let m =
@@ -152,12 +152,12 @@ module _ (links : List Ends) (h : ArePaired links) (i : ℕ) (below : i < length
             omega (arith, x, y, more, none)
 
     -- so some more links are counted
-    counted_more : (src dst : ℕ) → src ≡ here.src → dst ≡ here.dst → (t : Bool) → t ≡ back → (after : List (ℕ × Ways)) → IsJoined src dst true t before after → IsCounted links (take (next_place links i) links) after
+    counted_more : (src dst : ℕ) → src ≡ here.src → dst ≡ here.dst → (t : Bool) → t ≡ back → (after : List (ℕ × Ways)) → IsJoined src dst true t before after → CountsWays links (take (next_place links i) links) after
     counted_more src dst is_src is_dst t is_back after j n =
-        subst (AreWays links (take (next_place links i) links) n) (sym (j n ∙ (λ k. joined (is_src k) (is_dst k) true (is_back k) n (ways_of before n)))) (ways_more n)
+        subst (AreWays links (take (next_place links i) links) n) (sym (j n ∙ (λ k. ways_after (is_src k) (is_dst k) true (is_back k) n (ways_of before n)))) (ways_more n)
 
     -- ways by few links are few
-    few_more : length links < 2 ^ 32 → (n : ℕ) (ways : Ways) → joined here.src here.dst true back n (ways_of before n) ≡ ways → AreFew ways
+    few_more : length links < 2 ^ 32 → (n : ℕ) (ways : Ways) → ways_after here.src here.dst true back n (ways_of before n) ≡ ways → AreFew ways
     few_more few n ways is =
         let some = take (next_place links i) links in
         let m = subst (AreWays links some n) is (ways_more n) in
@@ -192,7 +192,7 @@ module _ (links : List Ends) (h : ArePaired links) (i : ℕ) (below : i < length
 
 -- ---- links as a function has them
 
-module _ (slice : List Link) (h : ArePaired (ends_in slice)) (i : ℕ) (exists : i < length slice) (cut : NoneCut (ends_in slice) i) (far : NoneFar (ends_in slice) i) (before : List (ℕ × Ways)) (counted : IsCounted (ends_in slice) (take i (ends_in slice)) before)
+module _ (slice : List Link) (h : ArePaired (ends_in slice)) (i : ℕ) (exists : i < length slice) (cut : NoneCut (ends_in slice) i) (far : NoneFar (ends_in slice) i) (before : List (ℕ × Ways)) (counted : CountsWays (ends_in slice) (take i (ends_in slice)) before)
     (next : Bool) (is_next : next ≡ next_back (ends_in slice) i) (back : Bool) (chosen : ((next ≡ true) × (back ≡ next)) ⊎ ((next ≡ false) × (back ≡ ((get_or slice i (record { src = 0; dst = 0 })).src == (get_or slice i (record { src = 0; dst = 0 })).dst)))) where
   -- the ends of all links
   abbrev links : List Ends
@@ -240,10 +240,10 @@ module _ (slice : List Link) (h : ArePaired (ends_in slice)) (i : ℕ) (exists :
 
   -- once they are, more of the links are counted, and they do not part
   pub step_counted : (after : List (ℕ × Ways)) → IsJoined link.src link.dst true back before after → (step : ℕ) → ((next ≡ true) × (step ≡ 2)) ⊎ ((next ≡ false) × (step ≡ 1))
-      → IsCounted links (take (i + step) links) after × NoneCut links (i + step)
+      → CountsWays links (take (i + step) links) after × NoneCut links (i + step)
   step_counted after joins step ahead =
       let place : next_place links i ≡ i + step = ap (λ t. i + (if t then 2 else 1)) (sym is_next) ∙ ap (λ k. i + k) (sym (steps ahead)) in (
-        subst (λ k. IsCounted links (take k links) after) place (counted_more links h i below cut far before counted link.src link.dst src_is dst_is back leads after joins),
+        subst (λ k. CountsWays links (take k links) after) place (counted_more links h i below cut far before counted link.src link.dst src_is dst_is back leads after joins),
         subst (NoneCut links) place (cut_next links h i below cut far),
       )
     where
@@ -252,5 +252,5 @@ module _ (slice : List Link) (h : ArePaired (ends_in slice)) (i : ℕ) (exists :
       steps (inr e) = e.1 ∙ sym (ap (λ t. if t then 2 else 1) e.0)
 
 -- all links are counted once the place is behind the last
-pub counted_all : (slice : List Link) (i : ℕ) → length slice ≤ i → (table : List (ℕ × Ways)) → IsCounted (ends_in slice) (take i (ends_in slice)) table → IsCounted (ends_in slice) (ends_in slice) table
-counted_all slice i all table h = let long = length-map slice link_ends in subst (λ some. IsCounted (ends_in slice) some table) (take_all i (ends_in slice) (omega (arith, long, all))) h
+pub counted_all : (slice : List Link) (i : ℕ) → length slice ≤ i → (table : List (ℕ × Ways)) → CountsWays (ends_in slice) (take i (ends_in slice)) table → CountsWays (ends_in slice) (ends_in slice) table
+counted_all slice i all table h = let long = length-map slice link_ends in subst (λ some. CountsWays (ends_in slice) some table) (take_all i (ends_in slice) (omega (arith, long, all))) h

@@ -18,7 +18,7 @@ use Rattle.graph_store.proofs.Listed.{list_any-place}
 use Rattle.present_links.specs.declared.link_list.Link.{Link}
 use Rattle.walk_algorithms.specs.declared.ways.Ways.{Ways}
 use Rattle.present_links.specs.Links.{alone_among, leads_back}
-use Rattle.walk_algorithms.specs.Counted.{IsCounted}
+use Rattle.walk_algorithms.specs.Counted.{CountsWays}
 use Rattle.present_links.specs.Links.{ends_in, link_ends}
 use Rattle.walk_algorithms.specs.Paired.{both_ends, next_back, turned, ArePaired, NoneFar}
 
@@ -29,7 +29,7 @@ passing_permuted : {X : Type 0} (p : X → Bool) (xs ys : List X) → IsPermutat
 passing_permuted p xs ys moved = length-filter p ys ∙ (sum_by-IsPermutation (λ x. cond (p x) 1 0) xs ys moved ∙ sym (length-filter p xs))
 
 -- the ways of nodes do not depend on the order of the links
-pub counted_permuted : (xs ys : List Ends) (table : List (ℕ × Ways)) → IsPermutation xs ys → IsCounted ys ys table → IsCounted xs xs table
+pub counted_permuted : (xs ys : List Ends) (table : List (ℕ × Ways)) → IsPermutation xs ys → CountsWays ys ys table → CountsWays xs xs table
 counted_permuted xs ys table moved h n =
     let was = h n in record {
       ins = was.ins ∙ passing_permuted (λ (p : Ends). p.dst == n) xs ys moved;

@@ -43,15 +43,15 @@ Puts before n ways after =
     (k : ℕ) → lookup (nat_eq k) after ≡ (if n == k then Some ways else lookup (nat_eq k) before)
 
 -- the ways of a node after the links between two nodes are counted at both
-abbrev pub joined : ℕ → ℕ → Bool → Bool → ℕ → Ways → Ways
-joined src dst there back n w =
+abbrev pub ways_after : ℕ → ℕ → Bool → Bool → ℕ → Ways → Ways
+ways_after src dst there back n w =
     if src == n then plus w (between there back) else (if dst == n then plus w (between back there) else w)
 
 -- a table after the links between two nodes are counted at both
 abbrev pub IsJoined : ℕ → ℕ → Bool → Bool → List (ℕ × Ways) → List (ℕ × Ways) → Type 0
 IsJoined src dst there back before after =
-    (n : ℕ) → ways_of after n ≡ joined src dst there back n (ways_of before n)
+    (n : ℕ) → ways_of after n ≡ ways_after src dst there back n (ways_of before n)
 
 -- a table of the ways of nodes by some of all links
-abbrev pub IsCounted : List Ends → List Ends → List (ℕ × Ways) → Type 0
-IsCounted all some table = (n : ℕ) → AreWays all some n (ways_of table n)
+abbrev pub CountsWays : List Ends → List Ends → List (ℕ × Ways) → Type 0
+CountsWays all some table = (n : ℕ) → AreWays all some n (ways_of table n)

@@ -5,10 +5,10 @@ ghost use Rattle.graph_model.specs.declared.events.Model.TheVariants.{Event as I
 ghost use Rattle.graph_model.specs.Answer.{degree_row};
 ghost use Rattle.graph_model.specs.Presence.{nodes};
 ghost use Rattle.graph_store.specs.Contents.{name_at};
-ghost use Rattle.view_trait.specs.Covered.{Covers, edge_count, node_count};
-ghost use Rattle.view_trait.specs.Meaning.{IsWithin};
+ghost use Rattle.view_trait.specs.Coverage.{Covers, edge_count_on, node_count_on};
+ghost use Rattle.view_trait.specs.Meaning.{StepsWithin};
 ghost use Rattle.present_links.specs.Links.{rising_links};
-ghost use Rattle.walk_algorithms.specs.Counted.{AreWays, IsCounted};
+ghost use Rattle.walk_algorithms.specs.Counted.{AreWays, CountsWays};
 ghost use Rattle.walk_algorithms.specs.Degrees.{degree_row_of};
 
 use crate::link_ways::link_ways;
@@ -91,7 +91,7 @@ fn degrees_of<V: View>(
 ) -> Result<DegreeRows, Memory>
     requires known { All (λ n. n < length (V.contents view.now).nodes) nodes.now }
     requires ways { let links = rising_links (V.contents view.now) (V.world view.now) in
-        IsCounted links links ways.now }
+        CountsWays links links ways.now }
     ensures rows { let c = V.contents view.now in
         let rows_of = λ (n : ℕ). degree_row (V.world view.now) (name_at c.nodes n) in
         IfOk result (λ rows. map (degree_row_of c) rows ≡ map rows_of nodes.now) }
@@ -123,10 +123,10 @@ pub fn degrees<V: View, L: Ledger>(
     ensures known { let c = V.contents view.now in
         IfOk result (λ rows. All (λ d. d.node.0 < length c.nodes) rows) }
     ensures cost { let c = V.contents view.now in
-        let of_nodes = node_count c roster.entry * (V.searches view.now).nodes in
-        let of_edges = edge_count c roster.entry * (V.searches view.now).edges in
+        let of_nodes = node_count_on c roster.entry * (V.searches view.now).nodes in
+        let of_edges = edge_count_on c roster.entry * (V.searches view.now).edges in
         (V.world view.now).model ≡ Instants
-        → IsWithin steps.old steps.new (of_nodes + of_edges) (length c.accepted) }
+        → StepsWithin steps.old steps.new (of_nodes + of_edges) (length c.accepted) }
 {
     let links = links(alloc, view, roster, steps)?;
     let nodes = present_nodes(alloc, view, &links, roster, steps)?;

@@ -3,7 +3,7 @@ ghost use Rattle.std.specs.Prelude.{◌≡◌, ◌⊎◌, ◌^◌, ◌<◌, true
 ghost use Rattle.std.specs.List.{IsDistinct};
 ghost use Rattle.graph_store.specs.Ends.{same_ends};
 ghost use Rattle.present_links.specs.Links.{ends_in, link_ends};
-ghost use Rattle.walk_algorithms.specs.Counted.{IsCounted};
+ghost use Rattle.walk_algorithms.specs.Counted.{CountsWays};
 ghost use Rattle.walk_algorithms.specs.Paired.{ArePaired, NoneFar, both_ends, next_back, turned};
 
 use crate::ways::WayTable;
@@ -50,7 +50,7 @@ fn next_leads_back(links: &[Link], i: usize) -> bool
 fn count_links(alloc: Global, links: &[Link]) -> Result<WayTable, Memory>
     requires paired { ArePaired (ends_in links.now) }
     requires few { length links.now < 2 ^ 32 }
-    ensures { IfOk result (IsCounted (ends_in links.now) (ends_in links.now)) }
+    ensures { IfOk result (CountsWays (ends_in links.now) (ends_in links.now)) }
 {
     let mut ways = WayTable::new(alloc);
     let mut i = 0;
@@ -69,7 +69,7 @@ fn count_links(alloc: Global, links: &[Link]) -> Result<WayTable, Memory>
 pub fn link_ways(alloc: Global, links: Links) -> Result<WayTable, Memory>
     requires once { IsDistinct same_ends links }
     requires few { length links < 2 ^ 32 }
-    ensures { IfOk result (IsCounted links links) }
+    ensures { IfOk result (CountsWays links links) }
 {
     let mut links = links.into_vec();
     links.sort_unstable_by_key(|link| both_ends(*link));

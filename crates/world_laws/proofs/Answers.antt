@@ -19,7 +19,7 @@ use Rattle.graph_model.specs.Entity.{edge_cmp, same_edge}
 use Rattle.graph_model.specs.World.{World, events_of}
 use Rattle.graph_model.specs.Compare.{value_of}
 use Rattle.graph_model.specs.Presence.{node_present, nodes, edges, alive_at}
-use Rattle.graph_model.specs.Answer.{Row, Named, Linked, Happened, Valued, Lives, row_cmp, RowsRise, IsFact, AreTheFacts, IsAnswer, degree_row, extent_row, edge_kind, history_rows, value_rows}
+use Rattle.graph_model.specs.Answer.{Row, NodeRow, EdgeRow, MomentRow, ValueRow, AliveRow, row_cmp, RowsRise, IsFact, AreTheFacts, IsAnswer, degree_row, extent_row, edge_kind, history_rows, value_rows}
 use Rattle.world_laws.proofs.Order.{same_name-refl, same_name-exact, same_edge-exact, same_edge-refl}
 use Rattle.world_laws.proofs.Rows.{contains_cases, contains_first, contains_later, contains_none}
 use Rattle.world_laws.proofs.Filters.{each_weaker}
@@ -69,8 +69,8 @@ node_rows w f row = (
   λ r. subst (λ z. Contains (map f (nodes w)) z) (sym r.2) (map_contains f (nodes w) r.0 (contained_any (same_name r.0) r.0 (same_name-exact r.0) (nodes w) (nodes_has w r.0 ∙ r.1))),
 )
 
-pub answer_nodes : (w : World) → IsAnswer w Nodes (map Named (nodes w))
-answer_nodes w = record { rise = Rises-map name_cmp row_cmp Named (λ x y. less_then (name_cmp x y)) (nodes w) (nodes_rise w); exact = node_rows w Named }
+pub answer_nodes : (w : World) → IsAnswer w Nodes (map NodeRow (nodes w))
+answer_nodes w = record { rise = Rises-map name_cmp row_cmp NodeRow (λ x y. less_then (name_cmp x y)) (nodes w) (nodes_rise w); exact = node_rows w NodeRow }
 
 pub answer_degree : (w : World) → IsAnswer w Degree (map (degree_row w) (nodes w))
 answer_degree w = record { rise = Rises-map name_cmp row_cmp (degree_row w) (λ x y. less_then (name_cmp x y)) (nodes w) (nodes_rise w); exact = node_rows w (degree_row w) }
@@ -89,12 +89,12 @@ no_row w ask none = record { rise = tt; exact = λ r. (λ c. absurd (contains_no
 pub answer_events : (w : World) → IsAnswer w Events (extent_row w.events ∷ [])
 answer_events w = one_row w Events (extent_row w.events) (λ row. (λ h. h, λ h. h))
 
-pub answer_alive : (w : World) (edge : EdgeName) (m : ℤ) → IsAnswer w (EdgeAlive edge m) (Lives (alive_at w edge m) ∷ [])
-answer_alive w edge m = one_row w (EdgeAlive edge m) (Lives (alive_at w edge m)) (λ row. (λ h. h, λ h. h))
+pub answer_alive : (w : World) (edge : EdgeName) (m : ℤ) → IsAnswer w (EdgeAlive edge m) (AliveRow (alive_at w edge m) ∷ [])
+answer_alive w edge m = one_row w (EdgeAlive edge m) (AliveRow (alive_at w edge m)) (λ row. (λ h. h, λ h. h))
 
-value_facts : (w : World) (ask : Ask) (o : Option Value) → ((row : Row) → IsFact w ask row ↔ ((v : Value) × (o ≡ Some v) × (row ≡ Valued v))) → AreTheFacts w ask (value_rows o)
+value_facts : (w : World) (ask : Ask) (o : Option Value) → ((row : Row) → IsFact w ask row ↔ ((v : Value) × (o ≡ Some v) × (row ≡ ValueRow v))) → AreTheFacts w ask (value_rows o)
 value_facts w ask None same = no_row w ask (λ row h. let e = ((same row).0 h).1 in cc)
-value_facts w ask (Some v) same = one_row w ask (Valued v) (λ row. (λ e. (same row).1 (v, refl, e), λ h. let r = (same row).0 h in let e : v ≡ r.0 = cc_some r.1 in r.2 ∙ ap Valued (sym e)))
+value_facts w ask (Some v) same = one_row w ask (ValueRow v) (λ row. (λ e. (same row).1 (v, refl, e), λ h. let r = (same row).0 h in let e : v ≡ r.0 = cc_some r.1 in r.2 ∙ ap ValueRow (sym e)))
   where
     cc_some : {u : Value} → Some v ≡ Some u → v ≡ u
     cc_some e = cc
@@ -106,7 +106,7 @@ pub answer_edge_value : (w : World) (edge : EdgeName) (key : List ℕ) → IsAns
 answer_edge_value w edge key = value_facts w (EdgeValue edge key) (value_of key (events_of w (Edge edge))) (λ row. (λ h. h, λ h. h))
 
 -- one row for each present edge
-edge_less : (x y : EdgeName) → edge_cmp x y ≡ Less → row_cmp (Linked x) (Linked y) ≡ Less
+edge_less : (x y : EdgeName) → edge_cmp x y ≡ Less → row_cmp (EdgeRow x) (EdgeRow y) ≡ Less
 edge_less x y h = step (name_cmp x.src y.src) (name_cmp x.dst y.dst) (name_cmp x.layer y.layer) h
   where
     step : (a b c : Ordering) → ordering_then a (ordering_then b c) ≡ Less → ordering_then (ordering_then a (ordering_then b (ordering_then c Equal))) (nat_cmp 0 0) ≡ Less
@@ -118,18 +118,18 @@ edge_less x y h = step (name_cmp x.src y.src) (name_cmp x.dst y.dst) (name_cmp x
     step Equal Greater c h = cc
     step Greater b c h = cc
 
-pub answer_edges : (w : World) → IsAnswer w Edges (map Linked (edges w))
+pub answer_edges : (w : World) → IsAnswer w Edges (map EdgeRow (edges w))
 answer_edges w = record {
-  rise = Rises-map edge_cmp row_cmp Linked edge_less (edges w) (edges_rise w);
+  rise = Rises-map edge_cmp row_cmp EdgeRow edge_less (edges w) (edges_rise w);
   exact = λ row. (
-    λ c. let r = contains_map Linked (edges w) row c in (r.0, sym (edges_has w r.0) ∙ any_contained (same_edge r.0) (edges w) r.0 r.1 (same_edge-refl r.0), r.2),
-    λ r. subst (λ z. Contains (map Linked (edges w)) z) (sym r.2) (map_contains Linked (edges w) r.0 (contained_any (same_edge r.0) r.0 (same_edge-exact r.0) (edges w) (edges_has w r.0 ∙ r.1))),
+    λ c. let r = contains_map EdgeRow (edges w) row c in (r.0, sym (edges_has w r.0) ∙ any_contained (same_edge r.0) (edges w) r.0 r.1 (same_edge-refl r.0), r.2),
+    λ r. subst (λ z. Contains (map EdgeRow (edges w)) z) (sym r.2) (map_contains EdgeRow (edges w) r.0 (contained_any (same_edge r.0) r.0 (same_edge-exact r.0) (edges w) (edges_has w r.0 ∙ r.1))),
   );
 }
 
 -- ---- histories
 
-history_places : (kind : Event → List ℕ) (j k : ℕ) (t : ℤ) (bs : List ℕ) (xs : List Event) → j < k → AllByRecursion (λ row. row_cmp (Happened j t bs) row ≡ Less) (history_rows kind k xs)
+history_places : (kind : Event → List ℕ) (j k : ℕ) (t : ℤ) (bs : List ℕ) (xs : List Event) → j < k → AllByRecursion (λ row. row_cmp (MomentRow j t bs) row ≡ Less) (history_rows kind k xs)
 history_places kind j k t bs [] h = tt
 history_places kind j k t bs (x ∷ xs) h = (ap (ordering_then Equal) (sym (nat_cmp_is j k Less h)), history_places kind j (suc k) t bs xs (omega arith))
 
@@ -137,33 +137,33 @@ history_rise : (kind : Event → List ℕ) (k : ℕ) (xs : List Event) → RowsR
 history_rise kind k [] = tt
 history_rise kind k (x ∷ xs) = (history_places kind k (suc k) x.time (kind x) xs (omega arith), history_rise kind (suc k) xs)
 
-history_exact : (kind : Event → List ℕ) (k : ℕ) (xs : List Event) (row : Row) → Contains (history_rows kind k xs) row → (j : ℕ) × ((x : Event) × (slice_get xs j ≡ Some x) × (row ≡ Happened (k + j) x.time (kind x)))
+history_exact : (kind : Event → List ℕ) (k : ℕ) (xs : List Event) (row : Row) → Contains (history_rows kind k xs) row → (j : ℕ) × ((x : Event) × (slice_get xs j ≡ Some x) × (row ≡ MomentRow (k + j) x.time (kind x)))
 history_exact kind k [] row c = absurd (contains_none row c)
-history_exact kind k (x ∷ xs) row c = elim (contains_cases (Happened k x.time (kind x)) (history_rows kind (suc k) xs) row c) [
-  | inl e ↦ (0, (x, refl, sym e ∙ ap (λ n. Happened n x.time (kind x)) (omega arith)))
-  | inr d ↦ let r = history_exact kind (suc k) xs row d in (suc r.0, (r.1.0, r.1.1, r.1.2 ∙ ap (λ n. Happened n r.1.0.time (kind r.1.0)) (omega arith)))
+history_exact kind k (x ∷ xs) row c = elim (contains_cases (MomentRow k x.time (kind x)) (history_rows kind (suc k) xs) row c) [
+  | inl e ↦ (0, (x, refl, sym e ∙ ap (λ n. MomentRow n x.time (kind x)) (omega arith)))
+  | inr d ↦ let r = history_exact kind (suc k) xs row d in (suc r.0, (r.1.0, r.1.1, r.1.2 ∙ ap (λ n. MomentRow n r.1.0.time (kind r.1.0)) (omega arith)))
 ]
 
-history_has : (kind : Event → List ℕ) (k j : ℕ) (xs : List Event) (x : Event) → slice_get xs j ≡ Some x → Contains (history_rows kind k xs) (Happened (k + j) x.time (kind x))
+history_has : (kind : Event → List ℕ) (k j : ℕ) (xs : List Event) (x : Event) → slice_get xs j ≡ Some x → Contains (history_rows kind k xs) (MomentRow (k + j) x.time (kind x))
 history_has kind k j [] x e = absurd (none_some e)
   where
     none_some : {x : Event} → None ≡ Some x → ⊥
     none_some e = cc
 history_has kind k zero (y ∷ ys) x e =
     let s : y ≡ x = some_same e in
-    subst (λ row. Contains (history_rows kind k (y ∷ ys)) row) (ap (λ n. Happened n y.time (kind y)) (sym (add-zero k)) ∙ ap (λ z. Happened (k + 0) z.time (kind z)) s) (contains_first (Happened k y.time (kind y)) (history_rows kind (suc k) ys))
+    subst (λ row. Contains (history_rows kind k (y ∷ ys)) row) (ap (λ n. MomentRow n y.time (kind y)) (sym (add-zero k)) ∙ ap (λ z. MomentRow (k + 0) z.time (kind z)) s) (contains_first (MomentRow k y.time (kind y)) (history_rows kind (suc k) ys))
   where
     some_same : Some y ≡ Some x → y ≡ x
     some_same e = cc
 history_has kind k (suc j) (y ∷ ys) x e =
-    subst (λ row. Contains (history_rows kind k (y ∷ ys)) row) (ap (λ n. Happened n x.time (kind x)) (omega arith))
-    (contains_later (Happened k y.time (kind y)) (history_rows kind (suc k) ys) (Happened (suc k + j) x.time (kind x)) (history_has kind (suc k) j ys x e))
+    subst (λ row. Contains (history_rows kind k (y ∷ ys)) row) (ap (λ n. MomentRow n x.time (kind x)) (omega arith))
+    (contains_later (MomentRow k y.time (kind y)) (history_rows kind (suc k) ys) (MomentRow (suc k + j) x.time (kind x)) (history_has kind (suc k) j ys x e))
 
 -- the history of an entity, from place 0 on
-history_facts : (kind : Event → List ℕ) (xs : List Event) (row : Row) → Contains (history_rows kind 0 xs) row ↔ ((k : ℕ) × ((x : Event) × (slice_get xs k ≡ Some x) × (row ≡ Happened k x.time (kind x))))
+history_facts : (kind : Event → List ℕ) (xs : List Event) (row : Row) → Contains (history_rows kind 0 xs) row ↔ ((k : ℕ) × ((x : Event) × (slice_get xs k ≡ Some x) × (row ≡ MomentRow k x.time (kind x))))
 history_facts kind xs row = (
-  λ c. let r = history_exact kind 0 xs row c in (r.0, (r.1.0, r.1.1, r.1.2 ∙ ap (λ n. Happened n r.1.0.time (kind r.1.0)) (zero-add r.0))),
-  λ r. subst (λ z. Contains (history_rows kind 0 xs) z) (ap (λ n. Happened n r.1.0.time (kind r.1.0)) (zero-add r.0) ∙ sym r.1.2) (history_has kind 0 r.0 xs r.1.0 r.1.1),
+  λ c. let r = history_exact kind 0 xs row c in (r.0, (r.1.0, r.1.1, r.1.2 ∙ ap (λ n. MomentRow n r.1.0.time (kind r.1.0)) (zero-add r.0))),
+  λ r. subst (λ z. Contains (history_rows kind 0 xs) z) (ap (λ n. MomentRow n r.1.0.time (kind r.1.0)) (zero-add r.0) ∙ sym r.1.2) (history_has kind 0 r.0 xs r.1.0 r.1.1),
 )
 
 pub answer_node_history : (w : World) (node : List ℕ) → IsAnswer w (NodeHistory node) (history_rows (λ x. codes "node") 0 (events_of w (Node node)))

@@ -11,10 +11,10 @@ use Rattle.graph_model.specs.declared.events.Event.{Event}
 use Rattle.graph_model.specs.Names.{name_cmp, same_name, name_equiv}
 use Rattle.graph_model.specs.Props.{prop_value, has_key, put_prop, overwrite, KeysRise}
 use Rattle.graph_model.specs.Entity.{props_of, entity_of, what_props, update_of, is_deletion}
-use Rattle.graph_model.specs.Compare.{live, last_value, value_of}
-use Rattle.graph_model.specs.Window.{carried, last_props}
+use Rattle.graph_model.specs.Compare.{live_events, last_value, value_of}
+use Rattle.graph_model.specs.Window.{carried_events, last_props}
 use Rattle.world_laws.proofs.Carried.{each_live, props-update_of}
-use Rattle.world_laws.proofs.Live.{live-append, live-carried}
+use Rattle.world_laws.proofs.Live.{live_events-append, live_events-carried_events}
 
 -- no key stands twice
 abbrev pub Distinct : List (List ℕ × Value) → Type 0
@@ -171,9 +171,9 @@ last_or-append o [] ys = refl
 last_or-append o (x ∷ xs) ys = last_or-append (Some x) xs ys
 
 -- the one event that stands for events has their values
-pub value-carried : (key : List ℕ) (lo : ℤ) (xs ys : List Event) → AllByRecursion (λ x. Distinct (props_of x)) xs → last_value key (carried lo xs ++ ys) ≡ last_value key (xs ++ ys)
-value-carried key lo [] ys d = refl
-value-carried key lo (x ∷ xs) ys d =
+pub value-carried_events : (key : List ℕ) (lo : ℤ) (xs ys : List Event) → AllByRecursion (λ x. Distinct (props_of x)) xs → last_value key (carried_events lo xs ++ ys) ≡ last_value key (xs ++ ys)
+value-carried_events key lo [] ys d = refl
+value-carried_events key lo (x ∷ xs) ys d =
     let v : Event → Option Value = λ z. prop_value key (props_of z) in
     let whole : prop_value key (what_props (update_of (entity_of x) (last_props (x ∷ xs)))) ≡ last_or None (filter_map v (x ∷ xs)) = ap (prop_value key) (props-update_of (entity_of x) (last_props (x ∷ xs))) ∙ value-last_props key (x ∷ xs) d in
     ap (λ o. last_or None (cons_option o (filter_map v ys))) whole
@@ -183,11 +183,11 @@ value-carried key lo (x ∷ xs) ys d =
     ∙ ap (last_or None) (sym (filter_map-append v (x ∷ xs) ys)))))
 
 -- an entity has the same value where its early events are carried
-pub value_of-carried : (key : List ℕ) (lo : ℤ) (xs ys : List Event) → AllByRecursion (λ x. Distinct (props_of x)) xs → value_of key (carried lo (live xs) ++ ys) ≡ value_of key (xs ++ ys)
-value_of-carried key lo xs ys d =
-    ap (last_value key) (live-append (carried lo (live xs)) ys ∙ ap (λ zs. cond (list_any is_deletion ys) (live ys) (zs ++ ys)) (live-carried lo (live xs)))
-    ∙ ((elim (list_any is_deletion ys) as (λ t. last_value key (cond t (live ys) (carried lo (live xs) ++ ys)) ≡ last_value key (cond t (live ys) (live xs ++ ys))) [
+pub value_of-carried_events : (key : List ℕ) (lo : ℤ) (xs ys : List Event) → AllByRecursion (λ x. Distinct (props_of x)) xs → value_of key (carried_events lo (live_events xs) ++ ys) ≡ value_of key (xs ++ ys)
+value_of-carried_events key lo xs ys d =
+    ap (last_value key) (live_events-append (carried_events lo (live_events xs)) ys ∙ ap (λ zs. cond (list_any is_deletion ys) (live_events ys) (zs ++ ys)) (live_events-carried_events lo (live_events xs)))
+    ∙ ((elim (list_any is_deletion ys) as (λ t. last_value key (cond t (live_events ys) (carried_events lo (live_events xs) ++ ys)) ≡ last_value key (cond t (live_events ys) (live_events xs ++ ys))) [
       | true ↦ refl
-      | false ↦ value-carried key lo (live xs) ys (each_live (λ x. Distinct (props_of x)) xs d)
+      | false ↦ value-carried_events key lo (live_events xs) ys (each_live (λ x. Distinct (props_of x)) xs d)
     ])
-    ∙ ap (last_value key) (sym (live-append xs ys)))
+    ∙ ap (last_value key) (sym (live_events-append xs ys)))

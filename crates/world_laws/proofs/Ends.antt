@@ -10,13 +10,13 @@ use Rattle.graph_model.specs.declared.queries.Each.{Each}
 use Rattle.graph_model.specs.declared.queries.Each.TheVariants.{Rolling, Expanding}
 use Rattle.graph_model.specs.Interval.{earliest, latest}
 use Rattle.graph_model.specs.Range.{is_step, each_in_range}
-use Rattle.graph_model.specs.Searches.{kind_of, IsWindow}
+use Rattle.graph_model.specs.Searches.{kind_of_view, IsWindow}
 use Rattle.graph_model.specs.Windows.{window_start, window_end, step_of}
-use Rattle.world_laws.specs.Ends.{window_ends, IsNumbered}
+use Rattle.world_laws.specs.Ends.{window_ends, IsWindowInRow}
 use Rattle.world_laws.proofs.Times.{le_from_test}
 use Rattle.world_laws.proofs.Rolling.{counted_windows}
 
-pub ends_of_window : (op : Op) → kind_of op ≡ IsWindow → (ends : ℤ × ℤ) × (window_ends op ≡ Some ends)
+pub ends_of_window : (op : Op) → kind_of_view op ≡ IsWindow → (ends : ℤ × ℤ) × (window_ends op ≡ Some ends)
 ends_of_window (Window a b) h = ((a, b), refl)
 ends_of_window (At t) h = ((t, t +ℤ pos 1), refl)
 ends_of_window (Before t) h = ((earliest, t), refl)
@@ -43,7 +43,7 @@ one_step_more k (pos s) h = omega (arith, ints)
 one_step_more k (negsuc s) h = absurd (omega (arith, ints))
 
 -- the end of a window is no more than a step past the last time
-pub end_fits : (each : Each) (first last : ℤ) (k : ℕ) → IsNumbered each first last k → window_end each first k <ℤ pos (2 ^ 63)
+pub end_fits : (each : Each) (first last : ℤ) (k : ℕ) → IsWindowInRow each first last k → window_end each first k <ℤ pos (2 ^ 63)
 end_fits each first last k h =
     let s = each_step each h.in_range in
     let low = s.0 in
@@ -58,7 +58,7 @@ product_bound k (pos s) h = let m : 1 * s ≤ (k + 1) * s = mul-le-mul_right s (
 product_bound k (negsuc s) h = absurd (omega (arith, ints))
 
 -- the beginning of a window is no more than a width before the first end
-pub start_fits : (each : Each) (first last : ℤ) (k : ℕ) → IsNumbered each first last k → neg_ℤ (pos (2 ^ 63)) ≤ℤ window_start each first k
+pub start_fits : (each : Each) (first last : ℤ) (k : ℕ) → IsWindowInRow each first last k → neg_ℤ (pos (2 ^ 63)) ≤ℤ window_start each first k
 start_fits (Rolling width step) first last k h =
     let low = h.begins in
     let wide = (step_bounds width (and_parts (is_step width) (is_step step) h.in_range).0).1 in

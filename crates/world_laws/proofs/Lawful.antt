@@ -19,10 +19,10 @@ use Rattle.graph_model.specs.Names.{name_cmp, same_name}
 use Rattle.graph_model.specs.Rising.{Rises}
 use Rattle.graph_model.specs.Interval.{Interval, cut, is_empty, is_inside, earliest, latest}
 use Rattle.graph_model.specs.Entity.{entity_of, is_about, about, entities, is_node, props_of, update_of}
-use Rattle.graph_model.specs.Compare.{live}
+use Rattle.graph_model.specs.Compare.{live_events}
 use Rattle.world_laws.proofs.Values.{KeysRise-last_props}
-use Rattle.graph_model.specs.World.{World, IsLawful, event_cmp, arrange, named, type_cmp, types_in, allows, types_agree, props_agree, same_type}
-use Rattle.graph_model.specs.Window.{window, window_list, is_early, is_within, carried, all_carried, last_props}
+use Rattle.graph_model.specs.World.{World, IsLawful, event_cmp, arrange, names_node, type_cmp, types_in, allows, types_agree, props_agree, same_type}
+use Rattle.graph_model.specs.Window.{window, window_list, is_early, is_within, carried_events, all_carried, last_props}
 use Rattle.graph_model.specs.Keep.{keep, in_layers, outside_layers, among_nodes, apart_from_nodes, among_types, edge_holds, node_holds, is_valid}
 use Rattle.graph_model.specs.Stack.{view, apply}
 use Rattle.world_laws.proofs.Filters.{each_kept, kept_pass, each_weaker, each_append, each_two, each_flat_map}
@@ -54,12 +54,12 @@ pairs_kept {X} r q xs h =
     (each_weaker (λ (x : X). list_all (r x) xs ≡ true) (λ (x : X). list_all (r x) (filter q xs) ≡ true) (λ x k. all_kept (r x) q xs k) xs (each_passes (λ x. list_all (r x) xs) xs h)))
 
 -- the types that a view keeps are of nodes that its events name
-pub types_in_named : (xs : List Event) (types : List (List ℕ × List ℕ)) → list_all (λ (t : List ℕ × List ℕ). named xs t.0) (types_in xs types) ≡ true
-types_in_named xs types = all_pass (λ (t : List ℕ × List ℕ). named xs t.0) (types_in xs types) (kept_pass (λ (t : List ℕ × List ℕ). named xs t.0) types)
+pub types_in_named : (xs : List Event) (types : List (List ℕ × List ℕ)) → list_all (λ (t : List ℕ × List ℕ). names_node xs t.0) (types_in xs types) ≡ true
+types_in_named xs types = all_pass (λ (t : List ℕ × List ℕ). names_node xs t.0) (types_in xs types) (kept_pass (λ (t : List ℕ × List ℕ). names_node xs t.0) types)
 
 -- and rise by node as before
 pub types_in_rise : (xs : List Event) (types : List (List ℕ × List ℕ)) → Rises type_cmp types → Rises type_cmp (types_in xs types)
-types_in_rise xs types h = Rises-filter type_cmp (λ (t : List ℕ × List ℕ). named xs t.0) types h
+types_in_rise xs types h = Rises-filter type_cmp (λ (t : List ℕ × List ℕ). names_node xs t.0) types h
 
 pub IsLawful-keep : (p : Entity → Bool) (w : World) → IsLawful w → IsLawful (keep p w)
 IsLawful-keep p w h = record {
@@ -161,7 +161,7 @@ carried_sets_cases b t e xs own h false k =
     all_folded t [] xs refl (each_two (λ x. entity_of x ≡ e) (λ x. sets_only b t x ≡ true) (λ x. list_all t (props_of x) ≡ true)
     (λ x p q. subst (λ (s : Bool). (s || list_all t (props_of x)) ≡ true) (ap (λ z. not (beq (is_node z) b)) p ∙ k) q) xs own h)
 
-carried_sets : (b : Bool) (t : List ℕ × Value → Bool) (lo : ℤ) (e : Entity) (xs : List Event) → AllByRecursion (λ x. entity_of x ≡ e) xs → AllByRecursion (λ x. sets_only b t x ≡ true) xs → AllByRecursion (λ x. sets_only b t x ≡ true) (carried lo xs)
+carried_sets : (b : Bool) (t : List ℕ × Value → Bool) (lo : ℤ) (e : Entity) (xs : List Event) → AllByRecursion (λ x. entity_of x ≡ e) xs → AllByRecursion (λ x. sets_only b t x ≡ true) xs → AllByRecursion (λ x. sets_only b t x ≡ true) (carried_events lo xs)
 carried_sets b t lo e [] own h = tt
 carried_sets b t lo e (x ∷ xs) own h =
     let k = carried_sets_cases b t e (x ∷ xs) own h (not (beq (is_node e) b)) refl in
@@ -171,8 +171,8 @@ carried_sets b t lo e (x ∷ xs) own h =
 
 each_all_carried : (b : Bool) (t : List ℕ × Value → Bool) (lo : ℤ) (early : List Event) → AllByRecursion (λ x. sets_only b t x ≡ true) early → AllByRecursion (λ x. sets_only b t x ≡ true) (all_carried lo early)
 each_all_carried b t lo early h =
-    each_flat_map (λ x. sets_only b t x ≡ true) (λ e. carried lo (live (about e early)))
-    (λ e. carried_sets b t lo e (live (about e early))
+    each_flat_map (λ x. sets_only b t x ≡ true) (λ e. carried_events lo (live_events (about e early)))
+    (λ e. carried_sets b t lo e (live_events (about e early))
     (each_live (λ x. entity_of x ≡ e) (about e early) (each_weaker (λ x. is_about e x ≡ true) (λ x. entity_of x ≡ e) (λ x p. sym (same_entity-exact e (entity_of x) p)) (about e early) (kept_pass (is_about e) early)))
     (each_live (λ x. sets_only b t x ≡ true) (about e early) (each_kept (λ x. sets_only b t x ≡ true) (is_about e) early h)))
     (entities early)
@@ -201,7 +201,7 @@ typed_window_list model i xs h =
     (each_passes (λ y. types_agree y x) xs (subst (λ (s : Bool). s ≡ true) (λ j. list_all (λ y. types_agree-sym x y j) xs) k)))))
     ys (each_passes (λ x. list_all (λ y. types_agree x y) xs) ys (all_swap (λ y x. types_agree x y) xs ys column)))
 
-carried_inside : (i : Interval) → is_empty i ≡ false → (xs : List Event) → AllByRecursion (λ x. is_within i x ≡ true) (carried i.lo xs)
+carried_inside : (i : Interval) → is_empty i ≡ false → (xs : List Event) → AllByRecursion (λ x. is_within i x ≡ true) (carried_events i.lo xs)
 carried_inside i e [] = tt
 carried_inside i e (x ∷ xs) = (inside_test i i.lo (≤ℤ_refl i.lo) (not_empty i e), tt)
 
@@ -213,14 +213,14 @@ inside_window_list Persistent i xs =
     cond_both (is_empty i) [] (arrange parts) (AllByRecursion (λ x. is_within i x ≡ true)) (λ e. tt)
     (λ e. each_in_order event_cmp (λ x. is_within i x ≡ true) parts
     (each_append (λ x. is_within i x ≡ true) (all_carried i.lo (filter (is_early i) xs)) (filter (is_within i) xs)
-    (each_flat_map (λ x. is_within i x ≡ true) (λ b. carried i.lo (live (about b (filter (is_early i) xs)))) (λ b. carried_inside i e (live (about b (filter (is_early i) xs)))) (entities (filter (is_early i) xs)))
+    (each_flat_map (λ x. is_within i x ≡ true) (λ b. carried_events i.lo (live_events (about b (filter (is_early i) xs)))) (λ b. carried_inside i e (live_events (about b (filter (is_early i) xs)))) (entities (filter (is_early i) xs)))
     (kept_pass (is_within i) xs)))
 
 allowed_window_list : (model : Model) (i : Interval) (xs : List Event) → list_all (allows model) xs ≡ true → list_all (allows model) (window_list model i xs) ≡ true
 allowed_window_list Instants i xs h = all_kept (allows Instants) (is_within i) xs h
 allowed_window_list Persistent i xs h = always (window_list Persistent i xs)
 
-carried_rising : (lo : ℤ) (xs : List Event) → AllByRecursion (λ x. KeysRise (props_of x)) xs → AllByRecursion (λ x. KeysRise (props_of x)) (carried lo xs)
+carried_rising : (lo : ℤ) (xs : List Event) → AllByRecursion (λ x. KeysRise (props_of x)) xs → AllByRecursion (λ x. KeysRise (props_of x)) (carried_events lo xs)
 carried_rising lo [] h = tt
 carried_rising lo (x ∷ xs) h = (subst KeysRise (sym (props-update_of (entity_of x) (last_props (x ∷ xs)))) (KeysRise-last_props (x ∷ xs) h), tt)
 
@@ -233,8 +233,8 @@ rising_window_list Persistent i xs h =
     cond_both (is_empty i) [] (arrange parts) (AllByRecursion (λ x. KeysRise (props_of x))) (λ e. tt)
     (λ e. each_in_order event_cmp (λ x. KeysRise (props_of x)) parts
     (each_append (λ x. KeysRise (props_of x)) (all_carried i.lo early) (filter (is_within i) xs)
-    (each_flat_map (λ x. KeysRise (props_of x)) (λ b. carried i.lo (live (about b early)))
-    (λ b. carried_rising i.lo (live (about b early)) (each_live (λ x. KeysRise (props_of x)) (about b early) (each_kept (λ x. KeysRise (props_of x)) (is_about b) early (each_kept (λ x. KeysRise (props_of x)) (is_early i) xs h)))) (entities early))
+    (each_flat_map (λ x. KeysRise (props_of x)) (λ b. carried_events i.lo (live_events (about b early)))
+    (λ b. carried_rising i.lo (live_events (about b early)) (each_live (λ x. KeysRise (props_of x)) (about b early) (each_kept (λ x. KeysRise (props_of x)) (is_about b) early (each_kept (λ x. KeysRise (props_of x)) (is_early i) xs h)))) (entities early))
     (each_kept (λ x. KeysRise (props_of x)) (is_within i) xs h)))
 
 pub IsLawful-window : (w : World) (a b : ℤ) → IsLawful w → IsLawful (window w a b)

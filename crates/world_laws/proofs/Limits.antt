@@ -12,7 +12,7 @@ use Rattle.graph_model.specs.declared.events.Event.{Event}
 use Rattle.graph_model.specs.Names.{name_cmp, same_name, name_total, name_equiv}
 use Rattle.graph_model.specs.Entity.{entity_of, is_node, names_in, props_of}
 use Rattle.graph_model.specs.Rising.{rising, Rises}
-use Rattle.graph_model.specs.Accepting.{Counted, Events, Nodes, Layers, NodeKeys, EdgeKeys, Types, all_counted, count_of, limit_of, distinct, node_events, edge_events, properties_of, key_names, node_names, layer_names, layers_in, type_names, is_over, passed_limit}
+use Rattle.graph_model.specs.Accepting.{Quantity, Events, Nodes, Layers, NodeKeys, EdgeKeys, Types, all_quantities, count_of, limit_of, distinct, node_events, edge_events, properties_of, key_names, node_names, layer_names, layers_in, type_names, is_over, passed_limit}
 use Rattle.world_laws.specs.Storable.{AreWithinLimits}
 use Rattle.world_laws.proofs.DistinctRising.{distinct_rising}
 use Rattle.world_laws.proofs.Filters.{each_weaker, each_append, each_two, each_kept, kept_pass}
@@ -127,7 +127,7 @@ each_prop P [] h = tt
 each_prop P (y ∷ ys) h = each_append P (props_of y) (properties_of ys) h.0 (each_prop P ys h.1)
 
 -- no more is counted of events and types whose names and keys others have
-pub count_fewer : (k : Counted) (xs : List Event) (ss : List (List ℕ × List ℕ)) (ys : List Event) (ts : List (List ℕ × List ℕ)) → length ys ≤ length xs → AllByRecursion (IsOf xs) ys → AllByRecursion (IsTypeOf ss) ts
+pub count_fewer : (k : Quantity) (xs : List Event) (ss : List (List ℕ × List ℕ)) (ys : List Event) (ts : List (List ℕ × List ℕ)) → length ys ≤ length xs → AllByRecursion (IsOf xs) ys → AllByRecursion (IsTypeOf ss) ts
     → count_of k ys ts ≤ count_of k xs ss
 count_fewer Events xs ss ys ts few each types = few
 count_fewer Nodes xs ss ys ts few each types =
@@ -189,9 +189,9 @@ not_over m n h = grind (arith, nat_tests, h)
 
 -- where no limit is passed, the counts are within the limits
 pub within_passed : (xs : List Event) (ts : List (List ℕ × List ℕ)) → passed_limit xs ts ≡ None → AreWithinLimits xs ts
-within_passed xs ts e = by (none_found (is_over xs ts) all_counted e)
+within_passed xs ts e = by (none_found (is_over xs ts) all_quantities e)
   where
-    by : AllByRecursion (λ k. is_over xs ts k ≡ false) all_counted → AreWithinLimits xs ts
+    by : AllByRecursion (λ k. is_over xs ts k ≡ false) all_quantities → AreWithinLimits xs ts
     by h Events = not_over (limit_of Events) (count_of Events xs ts) h.0
     by h Nodes = not_over (limit_of Nodes) (count_of Nodes xs ts) h.1.0
     by h Layers = not_over (limit_of Layers) (count_of Layers xs ts) h.1.1.0

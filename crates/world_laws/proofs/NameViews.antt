@@ -6,13 +6,13 @@ use Rattle.graph_model.specs.declared.queries.Op.TheVariants.{Window, At, Before
 use Rattle.graph_model.specs.World.{World, IsLawful}
 use Rattle.graph_model.specs.Window.{window}
 use Rattle.graph_model.specs.Keep.{keep, in_layers, outside_layers, among_nodes, apart_from_nodes, among_types}
-use Rattle.graph_model.specs.Searches.{kind_of, IsNameView}
+use Rattle.graph_model.specs.Searches.{kind_of_view, IsNameView}
 use Rattle.graph_model.specs.Stack.{view}
 use Rattle.world_laws.proofs.Named.{keep_types_remade}
 use Rattle.world_laws.proofs.Kept.{kept, keep-window, keep_comm}
 use Rattle.world_laws.proofs.NodeTypes.{types_and_window, types_and_test}
 
-pub name_view_and_window : (w : World) (a b : ℤ) (op : Op) → IsLawful w → kind_of op ≡ IsNameView → view (window w a b) op ≡ window (view w op) a b
+pub name_view_and_window : (w : World) (a b : ℤ) (op : Op) → IsLawful w → kind_of_view op ≡ IsNameView → view (window w a b) op ≡ window (view w op) a b
 name_view_and_window w a b (Layers names) h k = keep-window (in_layers names) w a b h
 name_view_and_window w a b (ExcludeLayers names) h k = keep-window (outside_layers names) w a b h
 name_view_and_window w a b (Subgraph names) h k = keep-window (among_nodes names) w a b h
@@ -27,7 +27,7 @@ name_view_and_window w a b (NodesWhere key c v) h k = cc
 name_view_and_window w a b Valid h k = cc
 
 -- a name view of the entities that pass a test
-name_view_and_test : (w : World) (p : Entity → Bool) (op : Op) → kind_of op ≡ IsNameView → view (keep p w) op ≡ keep p (view w op)
+name_view_and_test : (w : World) (p : Entity → Bool) (op : Op) → kind_of_view op ≡ IsNameView → view (keep p w) op ≡ keep p (view w op)
 name_view_and_test w p (Layers names) k = keep_comm p (in_layers names) w
 name_view_and_test w p (ExcludeLayers names) k = keep_comm p (outside_layers names) w
 name_view_and_test w p (Subgraph names) k = keep_comm p (among_nodes names) w
@@ -45,7 +45,7 @@ name_view_and_test w p Valid k = cc
 types_after_test : (w : World) (p : Entity → Bool) (names : List (List ℕ)) → view (keep p w) (NodeTypes names) ≡ keep (among_types w.types names) (keep p w)
 types_after_test w p names = keep_types_remade w w.bounds (kept p w.events) names
 
-types_after : (w : World) (names : List (List ℕ)) (op : Op) → kind_of op ≡ IsNameView → view (view w op) (NodeTypes names) ≡ keep (among_types w.types names) (view w op)
+types_after : (w : World) (names : List (List ℕ)) (op : Op) → kind_of_view op ≡ IsNameView → view (view w op) (NodeTypes names) ≡ keep (among_types w.types names) (view w op)
 types_after w names (Layers other) k = types_after_test w (in_layers other) names
 types_after w names (ExcludeLayers other) k = types_after_test w (outside_layers other) names
 types_after w names (Subgraph other) k = types_after_test w (among_nodes other) names
@@ -59,7 +59,7 @@ types_after w names (EdgesWhere key c v) k = cc
 types_after w names (NodesWhere key c v) k = cc
 types_after w names Valid k = cc
 
-pub name_views_both : (w : World) (op next : Op) → kind_of op ≡ IsNameView → kind_of next ≡ IsNameView → view (view w op) next ≡ view (view w next) op
+pub name_views_both : (w : World) (op next : Op) → kind_of_view op ≡ IsNameView → kind_of_view next ≡ IsNameView → view (view w op) next ≡ view (view w next) op
 name_views_both w (Layers names) next k m = name_view_and_test w (in_layers names) next m
 name_views_both w (ExcludeLayers names) next k m = name_view_and_test w (outside_layers names) next m
 name_views_both w (Subgraph names) next k m = name_view_and_test w (among_nodes names) next m

@@ -19,7 +19,7 @@ use Rattle.graph_model.specs.Rising.{Rises}
 use Rattle.graph_model.specs.Entity.{is_about, is_addition, entities, same_edge}
 use Rattle.graph_model.specs.World.{World, IsLawful, events_of}
 use Rattle.graph_model.specs.Presence.{lives_at, node_present, edge_present, is_present_at, nodes, edges}
-use Rattle.graph_model.specs.Neighbours.{is_link, leads, neighbours}
+use Rattle.graph_model.specs.Neighbours.{edge_leads, leads, neighbours}
 use Rattle.world_laws.specs.Contacts.{HasContact, IsEnd}
 use Rattle.world_laws.proofs.Filters.{any_weaker}
 use Rattle.world_laws.proofs.Order.{same_name-exact, same_name-refl, same_edge-exact}
@@ -96,10 +96,10 @@ neighbours_has w d a b =
     ∙ (any_both (leads w d a b) (same_name b) (nodes w)
     ∙ (ap (λ t. leads w d a b && t) (nodes_has w b) ∙ and_when (leads w d a b) (node_present w b) (leads_present w d a b))))
 
-linked_back : (w : World) (a b : List ℕ) (edge : EdgeName) → edge_present w edge ≡ true → edge.src ≡ a → edge.dst ≡ b → list_any (is_link a b) (edges w) ≡ true
+linked_back : (w : World) (a b : List ℕ) (edge : EdgeName) → edge_present w edge ≡ true → edge.src ≡ a → edge.dst ≡ b → list_any (edge_leads a b) (edges w) ≡ true
 linked_back w a b edge h p q =
-    any_weaker (same_edge edge) (is_link a b)
-    (λ f s. subst (λ z. is_link a b z ≡ true) (same_edge-exact edge f s)
+    any_weaker (same_edge edge) (edge_leads a b)
+    (λ f s. subst (λ z. edge_leads a b z ≡ true) (same_edge-exact edge f s)
     (and_from (same_name a edge.src) (same_name b edge.dst) (subst (λ z. same_name z edge.src ≡ true) p (same_name-refl edge.src)) (subst (λ z. same_name z edge.dst ≡ true) q (same_name-refl edge.dst))))
     (edges w) (edges_has w edge ∙ h)
 

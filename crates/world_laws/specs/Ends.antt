@@ -24,7 +24,7 @@ abbrev pub AreEnds : ℤ × ℤ → Type 0
 AreEnds ends = IsBound ends.0 × IsBound ends.1
 
 -- a window in a row, of events from a first time to a last
-pub record IsNumbered (each : Each) (first last : ℤ) (k : ℕ) : Type 0 where
+pub record IsWindowInRow (each : Each) (first last : ℤ) (k : ℕ) : Type 0 where
   -- the width and the step are in range
   pub in_range : IsTrue (each_in_range each)
   -- the times are moments, in order

@@ -1,5 +1,5 @@
 //! Laws of answers. The functions do nothing: their contracts are the laws.
-ghost use Rattle.graph_model.specs.Answer.{Row, IsAnswer, Named, Linked, Lives, update_row, extent_row, degree_row, edge_kind, history_rows, value_rows};
+ghost use Rattle.graph_model.specs.Answer.{Row, IsAnswer, NodeRow, EdgeRow, AliveRow, update_row, extent_row, degree_row, edge_kind, history_rows, value_rows};
 ghost use Rattle.graph_model.specs.Compare.{value_of};
 ghost use Rattle.graph_model.specs.Core.{IsCoreNumber};
 ghost use Rattle.graph_model.specs.Interval.{is_inside};
@@ -17,8 +17,8 @@ ghost use Rattle.std.specs.Prelude.{codes, map, ◌≡◌, ℕ, ℤ, List, [], �
 
 /// The answers to the questions that need no walk.
 pub fn plain_questions_have_answers()
-    ensures nodes { (w : World) → IsAnswer w Nodes (map Named (nodes w)) }
-    ensures edges { (w : World) → IsAnswer w Edges (map Linked (edges w)) }
+    ensures nodes { (w : World) → IsAnswer w Nodes (map NodeRow (nodes w)) }
+    ensures edges { (w : World) → IsAnswer w Edges (map EdgeRow (edges w)) }
     ensures events { (w : World) → IsAnswer w Events (extent_row w.events ∷ []) }
     ensures degree { (w : World) → IsAnswer w Degree (map (degree_row w) (nodes w)) }
     ensures node_history { (w : World) (node : List ℕ)
@@ -32,7 +32,7 @@ pub fn plain_questions_have_answers()
         → IsAnswer w (EdgeValue edge key) (value_rows (value_of key (events_of w (Edge edge)))) }
     ensures updates { (w : World) → IsAnswer w Updates (map (update_row w) (named_nodes w)) }
     ensures edge_alive { (w : World) (edge : EdgeName) (m : ℤ)
-        → IsAnswer w (EdgeAlive edge m) (Lives (alive_at w edge m) ∷ []) }
+        → IsAnswer w (EdgeAlive edge m) (AliveRow (alive_at w edge m) ∷ []) }
 {}
 
 /// A question about a lawful world has exactly one answer.

@@ -7,7 +7,7 @@ ghost use Rattle.graph_model.specs.World.{World, IsLawful, type_cmp, put_type, e
 ghost use Rattle.graph_model.specs.declared.events.Entity.{Entity};
 ghost use Rattle.graph_model.specs.declared.events.Event.{Event};
 ghost use Rattle.graph_model.specs.declared.events.Model.{Model};
-ghost use Rattle.world_laws.specs.Accepted.{ArriveAlike, AreAccepted};
+ghost use Rattle.world_laws.specs.Acceptance.{ArriveAlike, AreAccepted};
 ghost use Rattle.std.specs.Cmp.{IsTotalOrder};
 ghost use Rattle.std.specs.List.{filter};
 ghost use Rattle.std.specs.List.Sorted.{IsPermutation};

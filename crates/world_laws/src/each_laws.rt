@@ -9,7 +9,7 @@ ghost use Rattle.graph_model.specs.declared.queries.Each.{Each};
 ghost use Rattle.graph_model.specs.declared.queries.Each.TheVariants.{Rolling, Expanding};
 ghost use Rattle.std.specs.List.{Contains};
 ghost use Rattle.std.specs.Prelude.{◌≡◌, ◌↔◌, ℕ, ℤ, List, [], ◌∷◌, ◌<◌, ◌≤ℤ◌, ◌+ℤ◌, ◌*ℤ◌, pos, length, slice_get, Some, Option, ◌^◌, ◌-ℤ◌, ◌+◌, neg_ℤ, ◌<ℤ◌};
-ghost use Rattle.world_laws.specs.Ends.{IsBound, IsNumbered};
+ghost use Rattle.world_laws.specs.Ends.{IsBound, IsWindowInRow};
 
 /// There is a window for each `k` at which the first time and `k` steps are not past the last time.
 pub fn windows_are_counted()
@@ -57,9 +57,9 @@ pub fn ends_of_windows_are_bounds()
     ensures early { (t : ℤ) → t ≤ℤ earliest → bounded t ≡ earliest }
     ensures late { (t : ℤ) → latest ≤ℤ t → bounded t ≡ latest }
     ensures begins { (each : Each) (first last : ℤ) (k : ℕ)
-        → IsNumbered each first last k
+        → IsWindowInRow each first last k
         → neg_ℤ (pos (2 ^ 63)) ≤ℤ window_start each first k }
     ensures ends { (each : Each) (first last : ℤ) (k : ℕ)
-        → IsNumbered each first last k
+        → IsWindowInRow each first last k
         → window_end each first k <ℤ pos (2 ^ 63) }
 {}

@@ -5,7 +5,7 @@ ghost use Rattle.graph_model.specs.Neighbours.{neighbours};
 ghost use Rattle.graph_model.specs.Presence.{edge_present, node_present, edges, nodes};
 ghost use Rattle.graph_model.specs.Rising.{Rises};
 ghost use Rattle.graph_model.specs.Updates.{updates, named_nodes};
-ghost use Rattle.graph_model.specs.World.{World, IsLawful, named, events_of};
+ghost use Rattle.graph_model.specs.World.{World, IsLawful, names_node, events_of};
 ghost use Rattle.graph_model.specs.declared.events.EdgeName.{EdgeName};
 ghost use Rattle.graph_model.specs.declared.events.Entity.TheVariants.{Node, Edge};
 ghost use Rattle.graph_model.specs.declared.events.Model.TheVariants.{Event as Instants, Persistent};
@@ -55,10 +55,10 @@ pub fn present_nodes_and_edges_are_listed()
 /// The list of the nodes that events name rises, and these are the nodes with an update.
 pub fn named_nodes_are_updated()
     ensures listed { (w : World) (node : List ℕ)
-        → list_any (same_name node) (named_nodes w) ≡ named w.events node }
+        → list_any (same_name node) (named_nodes w) ≡ names_node w.events node }
     ensures rise { (w : World) → Rises name_cmp (named_nodes w) }
     ensures updated { (w : World) (node : List ℕ)
-        → (0 < updates w node) ↔ IsTrue (named w.events node) }
+        → (0 < updates w node) ↔ IsTrue (names_node w.events node) }
 {}
 
 /// A neighbour is where a present edge leads to, or comes from; the neighbours both ways are those

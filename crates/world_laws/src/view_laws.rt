@@ -2,11 +2,11 @@
 ghost use Rattle.graph_model.specs.Entity.{is_about};
 ghost use Rattle.graph_model.specs.Keep.{keep, among_types};
 ghost use Rattle.graph_model.specs.Range.{op_in_range};
-ghost use Rattle.graph_model.specs.Searches.{kind_of, IsNameView, IsWindow};
+ghost use Rattle.graph_model.specs.Searches.{kind_of_view, IsNameView, IsWindow};
 ghost use Rattle.graph_model.specs.Stack.{view, apply};
 ghost use Rattle.graph_model.specs.Window.{window};
 ghost use Rattle.graph_model.specs.Windows.{windows};
-ghost use Rattle.graph_model.specs.World.{World, IsLawful, named, types_in, events_of};
+ghost use Rattle.graph_model.specs.World.{World, IsLawful, names_node, types_in, events_of};
 ghost use Rattle.graph_model.specs.declared.events.Entity.{Entity};
 ghost use Rattle.graph_model.specs.declared.events.Event.{Event};
 ghost use Rattle.graph_model.specs.declared.queries.Op.{Op};
@@ -44,11 +44,11 @@ pub fn types_follow_names()
     ensures keep { (w : World) (p : Entity → Bool)
         → (keep p w).types ≡ types_in (keep p w).events w.types }
     ensures window_names { (w : World) (a b : ℤ) (node : List ℕ)
-        → IsTrue (named (window w a b).events node)
-        → IsTrue (named w.events node) }
+        → IsTrue (names_node (window w a b).events node)
+        → IsTrue (names_node w.events node) }
     ensures keep_names { (w : World) (p : Entity → Bool) (node : List ℕ)
-        → IsTrue (named (keep p w).events node)
-        → IsTrue (named w.events node) }
+        → IsTrue (names_node (keep p w).events node)
+        → IsTrue (names_node w.events node) }
     ensures same { (xs : List Event) (types : List (List ℕ × List ℕ)) (names : List (List ℕ))
         (e : Entity)
         → IsTrue (list_any (is_about e) xs)
@@ -91,7 +91,7 @@ pub fn views_join_in_runs()
 /// A view that is a window has ends; those of a view in range are ends that a cut may have.
 pub fn ends_of_views_are_bounds()
     ensures windows { (op : Op)
-        → kind_of op ≡ IsWindow
+        → kind_of_view op ≡ IsWindow
         → (ends : ℤ × ℤ) × (window_ends op ≡ Some ends) }
     ensures shown { (w : World) (op : Op) (ends : ℤ × ℤ)
         → window_ends op ≡ Some ends
@@ -107,10 +107,10 @@ pub fn ends_of_views_are_bounds()
 pub fn name_views_of_queries_change_places()
     ensures window { (w : World) (a b : ℤ) (op : Op)
         → IsLawful w
-        → kind_of op ≡ IsNameView
+        → kind_of_view op ≡ IsNameView
         → view (window w a b) op ≡ window (view w op) a b }
     ensures each_other { (w : World) (op next : Op)
-        → kind_of op ≡ IsNameView
-        → kind_of next ≡ IsNameView
+        → kind_of_view op ≡ IsNameView
+        → kind_of_view next ≡ IsNameView
         → view (view w op) next ≡ view (view w next) op }
 {}

@@ -1,10 +1,10 @@
 //! Laws of windows and of what they carry. The functions do nothing: their contracts are the laws.
-ghost use Rattle.graph_model.specs.Compare.{live, last_value};
+ghost use Rattle.graph_model.specs.Compare.{live_events, last_value};
 ghost use Rattle.graph_model.specs.Entity.{entity_of, props_of, is_deletion};
 ghost use Rattle.graph_model.specs.Interval.{Interval, cut, is_empty};
 ghost use Rattle.graph_model.specs.Props.{KeysRise, prop_value};
 ghost use Rattle.graph_model.specs.Spell.{spell, IsWindowOf};
-ghost use Rattle.graph_model.specs.Window.{window, clip_list, last_props, carried};
+ghost use Rattle.graph_model.specs.Window.{window, clip_list, last_props, carried_events};
 ghost use Rattle.graph_model.specs.World.{World, IsLawful, events_of};
 ghost use Rattle.graph_model.specs.declared.events.Entity.{Entity};
 ghost use Rattle.graph_model.specs.declared.events.Event.{Event};
@@ -40,21 +40,21 @@ pub fn live_events_stand_after_the_last_deletion()
     ensures after { (xs : List Event) (x : Event) (ys : List Event)
         → IsTrue (is_deletion x)
         → IsFalse (list_any is_deletion ys)
-        → live (xs ++ x ∷ ys) ≡ ys }
-    ensures all { (xs : List Event) → IsFalse (list_any is_deletion xs) → live xs ≡ xs }
+        → live_events (xs ++ x ∷ ys) ≡ ys }
+    ensures all { (xs : List Event) → IsFalse (list_any is_deletion xs) → live_events xs ≡ xs }
 {}
 
 /// An entity is carried where it has early events and the last of them is no deletion: as one
 /// update of it at the beginning, of order 0, with the last properties that are live.
 pub fn carried_after_an_event_that_is_no_deletion()
-    ensures none { (lo : ℤ) → carried lo (live []) ≡ [] }
+    ensures none { (lo : ℤ) → carried_events lo (live_events []) ≡ [] }
     ensures deleted { (lo : ℤ) (xs : List Event) (x : Event)
         → IsTrue (is_deletion x)
-        → carried lo (live (xs ++ x ∷ [])) ≡ [] }
+        → carried_events lo (live_events (xs ++ x ∷ [])) ≡ [] }
     ensures carried { (e : Entity) (lo : ℤ) (xs : List Event) (x : Event)
         → AllByRecursion (λ y. entity_of y ≡ e) (xs ++ x ∷ [])
         → IsFalse (is_deletion x)
-        → carried lo (live (xs ++ x ∷ [])) ≡ carried_event e lo (live (xs ++ x ∷ [])) ∷ [] }
+        → carried_events lo (live_events (xs ++ x ∷ [])) ≡ carried_event e lo (live_events (xs ++ x ∷ [])) ∷ [] }
 {}
 
 /// For each key, a carried event has the last value that the live events set.
@@ -68,7 +68,7 @@ pub fn carried_values_are_the_last()
 pub fn windows_are_parts_of_histories()
     ensures persistent { (h : List Event) (i : Interval) (from to : ℕ) (flag : Bool)
         → IsWindowOf h i from to
-        → (flag ≡ false → live (take from h) ≡ [])
+        → (flag ≡ false → live_events (take from h) ≡ [])
         → clip_list Persistent i h ≡ spell h from to flag i.lo }
     ensures instants { (h : List Event) (i : Interval) (from to : ℕ)
         → IsWindowOf h i from to
@@ -83,6 +83,6 @@ pub fn carried_span_spells_one_event_first()
         → AllByRecursion (λ y. entity_of y ≡ e) (before ++ x ∷ [])
         → IsFalse (is_deletion x)
         → spell (before ++ x ∷ after) (length before + 1) to true lo
-        ≡ carried_event e lo (live (before ++ x ∷ []))
+        ≡ carried_event e lo (live_events (before ++ x ∷ []))
         ∷ slice_range (before ++ x ∷ after) (length before + 1) to }
 {}

@@ -1,6 +1,6 @@
 use Rattle.std.proofs.Common.{◌≡◌, ◌<◌, length}
 use Rattle.std.specs.List.{AllByRecursion, find}
-use Rattle.graph_store.specs.Parts.{is_in}
+use Rattle.graph_store.specs.EdgeParts.{is_in}
 use Rattle.graph_store.proofs.edges.first_in_layer.Given as goal
 
 abbrev pub invariant-loop-edge : goal.invariant-loop-edge

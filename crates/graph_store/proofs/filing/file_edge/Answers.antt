@@ -3,10 +3,10 @@ use Rattle.std.specs.List.{list_any}
 use Rattle.indexmap.specs.IndexSet.{insert_key}
 use Rattle.graph_model.specs.Names.{same_name}
 use Rattle.world_laws.proofs.Digits.{digits-le}
-use Rattle.graph_store.specs.Parts.{same_parts}
+use Rattle.graph_store.specs.EdgeParts.{same_parts}
 use Rattle.graph_store.specs.Histories.{updates_in}
-use Rattle.graph_store.specs.Told.{updates_of_number}
-use Rattle.graph_store.specs.Taken.{with_ends}
+use Rattle.graph_store.specs.Telling.{updates_of_number}
+use Rattle.graph_store.specs.WithUpdate.{with_ends}
 use Rattle.graph_store.specs.Contents.{edge_name}
 use Rattle.graph_store.proofs.Results.{on_any}
 use Rattle.graph_store.proofs.EdgeNames.{known_edge, known_ends, known_layer, known_histories, new_parts}

@@ -4,7 +4,7 @@ use Rattle.graph_model.specs.Names.{same_name}
 use Rattle.std.proofs.lemmas.List.Quantifiers.{position-Some}
 use Rattle.world_laws.proofs.Digits.{digits-le}
 use Rattle.graph_store.specs.Histories.{updates_in}
-use Rattle.graph_store.specs.Told.{updates_of_number}
+use Rattle.graph_store.specs.Telling.{updates_of_number}
 use Rattle.graph_store.proofs.Readers.{none_found, one_found}
 use Rattle.graph_store.proofs.Results.{on_any, insert_key-new}
 use Rattle.graph_store.proofs.JudgeLaws.{count-new}

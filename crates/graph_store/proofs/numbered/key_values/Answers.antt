@@ -1,6 +1,6 @@
 use Rattle.std.proofs.Common.{◌≡◌, ◌∙◌, ◌++◌, ◌∷◌, ◌<◌, ℕ, List, sym, ap, subst}
 use Rattle.graph_model.specs.declared.properties.Value.{Value}
-use Rattle.time_history.specs.KeyValues.{KeysRise}
+use Rattle.time_history.specs.KeyValues.{KeyNumbersRise}
 use Rattle.time_history.proofs.Held.{all_from_each}
 use Rattle.graph_store.specs.declared.numbered.Numbered.{Numbered}
 use Rattle.graph_store.specs.Numbered.{pairs_in}
@@ -11,4 +11,4 @@ pub insert-requires : goal.insert-requires
 insert-requires c =
     let seam : c.loop-item.values ++ (c.in-Some.item.key, c.in-Some.item.value) ∷ pairs_in c.next.new.self ≡ pairs_in c.args.numbered.items = ap (λ (xs : List Numbered). c.loop-item.values ++ pairs_in xs) (sym c.in-Some.ensures.steps) ∙ c.loop-item.invariant in
     all_from_each (λ (p : ℕ × Value). p.0 < c.in-Some.item.key) c.loop-item.values
-    (before_rises c.loop-item.values (c.in-Some.item.key, c.in-Some.item.value) (pairs_in c.next.new.self) (subst KeysRise (sym seam) c.requires))
+    (before_rises c.loop-item.values (c.in-Some.item.key, c.in-Some.item.value) (pairs_in c.next.new.self) (subst KeyNumbersRise (sym seam) c.requires))

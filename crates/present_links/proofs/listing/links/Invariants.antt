@@ -1,8 +1,8 @@
 use Rattle.std.proofs.Common.{◌≡◌, ◌*◌, length, map, take}
 use Rattle.std.specs.List.{filter}
 use Rattle.graph_model.specs.declared.events.Model.TheVariants.{Event as Instants}
-use Rattle.view_trait.specs.Covered.{edges_on}
-use Rattle.view_trait.specs.Meaning.{IsWithin}
+use Rattle.view_trait.specs.Coverage.{edges_on}
+use Rattle.view_trait.specs.Meaning.{StepsWithin}
 use Rattle.present_links.specs.Links.{edge_ends, ends_in, has_edge}
 use Rattle.present_links.proofs.listing.links.Given as goal
 
@@ -13,5 +13,5 @@ invariant-loop-i g l =
     let world = g.V.View.world l.fn.view in
     record {
       links : ends_in l.links.items ≡ map (edge_ends contents) (filter (has_edge contents world) (take l.i (edges_on contents l.fn.roster)));
-      cost : world.model ≡ Instants → IsWithin l.fn.steps l.steps (l.i * (g.V.View.searches l.fn.view).edges) (length contents.accepted);
+      cost : world.model ≡ Instants → StepsWithin l.fn.steps l.steps (l.i * (g.V.View.searches l.fn.view).edges) (length contents.accepted);
     }

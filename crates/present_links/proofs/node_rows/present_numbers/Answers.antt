@@ -3,7 +3,7 @@ use Rattle.std.specs.List.{filter}
 use Rattle.std.specs.Prelude.{slice_get, Some}
 use Rattle.std.proofs.lemmas.List.{take_all}
 use Rattle.time_history.proofs.Held.{each_at}
-use Rattle.view_trait.specs.Covered.{node_count, nodes_on}
+use Rattle.view_trait.specs.Coverage.{node_count_on, nodes_on}
 use Rattle.view_trait.specs.Numbered.{is_listed}
 use Rattle.view_trait.proofs.Covered.{length-nodes_on}
 use Rattle.present_links.specs.Links.{has_own, is_end, is_present_number}
@@ -18,7 +18,7 @@ loop-i-preserved g c =
     let s = g.V.View.contents c.args.view.now in
     let w = g.V.View.world c.args.view.now in
     let i = c.loop-i.i in
-    let count : c.node_count-i-end.result ≡ node_count s c.args.roster = c.node_count-i-end.ensures ∙ ap (λ v. node_count v c.args.roster) c.store-store.ensures in
+    let count : c.node_count_on-i-end.result ≡ node_count_on s c.args.roster = c.node_count_on-i-end.ensures ∙ ap (λ v. node_count_on v c.args.roster) c.store-store.ensures in
     let below : i < length (nodes_on s c.args.roster) = (let lt = c.loop-i-test.true in let long = length-nodes_on s c.args.roster in omega (arith, lt, count, long)) in
     let here : slice_get (nodes_on s c.args.roster) i ≡ Some c.node.result.0 = subst (λ v. slice_get (nodes_on v c.args.roster) i ≡ Some c.node.result.0) c.store-store.ensures c.node.ensures in
     record {
@@ -32,7 +32,7 @@ present g c n =
     let s = g.V.View.contents c.args.view.now in
     let w = g.V.View.world c.args.view.now in
     let r = c.args.roster in
-    let count : c.node_count-i-end.result ≡ node_count s r = c.node_count-i-end.ensures ∙ ap (λ v. node_count v r) c.store-store.ensures in
+    let count : c.node_count_on-i-end.result ≡ node_count_on s r = c.node_count_on-i-end.ensures ∙ ap (λ v. node_count_on v r) c.store-store.ensures in
     let all : length (nodes_on s r) ≤ c.loop-i.i = (let le = c.loop-i-test.false in let long = length-nodes_on s r in omega (arith, le, count, long)) in
     let found : c.loop-i.numbers.items ≡ c.in_ok-numbers.numbers.items ++ filter (has_own s w) (nodes_on s r) = c.loop-i.invariant.numbers ∙ ap (λ ns. c.in_ok-numbers.numbers.items ++ filter (has_own s w) ns) (take_all c.loop-i.i (nodes_on s r) all) in
     (numbers_settled c.loop-i.numbers.items c.sort_unstable.new.self.items c.dedup.new.self.items c.sort_unstable.ensures.permutation c.sort_unstable.ensures.sorted c.dedup.ensures.filtered).1 n

@@ -1,6 +1,6 @@
 use Rattle.std.proofs.Common.{◌≤◌, ap, arith, length}
 use Rattle.graph_model.specs.Reading.{Reading, reading}
-use Rattle.query_run.specs.Told.{told}
+use Rattle.query_run.specs.StoreReading.{reading_of}
 use Rattle.query_run.proofs.Costs.{paid-all, paid-wanting}
 use Rattle.query_run.proofs.Records.{read_on-grows}
 use Rattle.query_run.proofs.reading.take_all.Goals as goal
@@ -10,7 +10,7 @@ returns-in_err-next-clause-cost g c =
     let before = length c.loop-row.read.store.accepted in
     let after = length (reading c.args.read.now.store.model c.args.bytes.now).accepted in
     let all = ap (λ (r : Reading). length r.accepted) c.loop-row.invariant.all in
-    let grows : before ≤ after = omega (arith, all, read_on-grows c.args.read.now.store.model (told c.loop-row.read) c.loop-row.number c.loop-row.reader) in
+    let grows : before ≤ after = omega (arith, all, read_on-grows c.args.read.now.store.model (reading_of c.loop-row.read) c.loop-row.number c.loop-row.reader) in
     omega (arith, paid-all before after grows, c.loop-row.invariant.paid)
 
 pub returns-in_err-take_record-clause-cost : goal.returns-in_err-take_record-clause-cost
@@ -18,6 +18,6 @@ returns-in_err-take_record-clause-cost g c =
     let before = length c.loop-row.read.store.accepted in
     let after = length (reading c.args.read.now.store.model c.args.bytes.now).accepted in
     let all = ap (λ (r : Reading). length r.accepted) c.loop-row.invariant.all in
-    let grows : before ≤ after = omega (arith, all, read_on-grows c.args.read.now.store.model (told c.loop-row.read) c.loop-row.number c.loop-row.reader) in
+    let grows : before ≤ after = omega (arith, all, read_on-grows c.args.read.now.store.model (reading_of c.loop-row.read) c.loop-row.number c.loop-row.reader) in
     let cost = c.in_err-take_record.ensures.cost in
     omega (arith, paid-wanting before after grows, c.loop-row.invariant.paid, cost)

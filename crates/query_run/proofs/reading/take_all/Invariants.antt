@@ -1,12 +1,12 @@
 use Rattle.std.proofs.Common.{◌≡◌, ◌≤◌, ◌<◌, ◌+◌, length}
 use Rattle.graph_model.specs.Reading.{read_on, reading}
-use Rattle.query_run.specs.Told.{IsFresh, told}
+use Rattle.query_run.specs.StoreReading.{IsFresh, reading_of}
 use Rattle.query_run.specs.Cost.{paid_steps}
 use Rattle.query_run.proofs.reading.take_all.Given as goal
 
 abbrev pub invariant-loop-row : goal.invariant-loop-row
 invariant-loop-row g l = record {
-  all : read_on l.fn.read.store.model (told l.read) l.number l.reader ≡ reading l.fn.read.store.model l.bytes;
+  all : read_on l.fn.read.store.model (reading_of l.read) l.number l.reader ≡ reading l.fn.read.store.model l.bytes;
   model : l.read.store.model ≡ l.fn.read.store.model;
   fresh : l.number ≡ 1 → IsFresh l.read.store;
   few : l.number + length l.reader ≤ length l.bytes + 1;

@@ -6,7 +6,7 @@ use Rattle.graph_model.specs.World.{events_of}
 use Rattle.graph_model.specs.Entity.{same_entity}
 use Rattle.graph_store.specs.Contents.{Contents, edge_entities}
 use Rattle.graph_model.specs.Answer.{edge_kind, history_rows}
-use Rattle.materialise.specs.Moments.{moment_of}
+use Rattle.view_lists.specs.Moments.{moment_of_event}
 use Rattle.view_answers.proofs.Happenings.{edge_part, none_part}
 use Rattle.view_answers.proofs.Unknown.{no_edge, edge_numbered}
 use Rattle.view_answers.proofs.histories.add_edge_history.Goals as goal
@@ -16,7 +16,7 @@ returns-in_ok-moments-in-Some g c =
     let contents = g.V.View.contents c.args.view.now in
     let world = g.V.View.world c.args.view.now in
     let place : position (same_entity (Edge c.args.edge.now)) (edge_entities contents.nodes contents.layers contents.edges) ≡ Some c.in-Some.e.0 = ap (λ (s : Contents). position (same_entity (Edge c.args.edge.now)) (edge_entities s.nodes s.layers s.edges)) (sym c.store.ensures) ∙ sym c.in-Some.ensures.place in
-    let moments : c.in_ok-moments-in-Some.moments ≡ map moment_of (events_of world (Edge c.args.edge.now)) = c.in_ok-moments-in-Some.ensures ∙ ap (λ x. map moment_of (events_of world x)) (edge_numbered contents c.args.edge.now c.in-Some.e.0 place).1 in
+    let moments : c.in_ok-moments-in-Some.moments ≡ map moment_of_event (events_of world (Edge c.args.edge.now)) = c.in_ok-moments-in-Some.ensures ∙ ap (λ x. map moment_of_event (events_of world x)) (edge_numbered contents c.args.edge.now c.in-Some.e.0 place).1 in
     subst (λ rows. OnOk c.add_moments.result (c.add_moments.new.out ≡ c.args.out.now ++ rows_text rows)) (edge_part world c.bounds.result c.in_ok-moments-in-Some.moments c.args.edge.now c.bounds.ensures moments) c.add_moments.ensures
 
 pub returns-in-None : goal.returns-in-None

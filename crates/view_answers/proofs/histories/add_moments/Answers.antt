@@ -1,5 +1,5 @@
 use Rattle.std.proofs.Common.{◌≡◌, ◌∙◌, ◌+◌, ◌≤◌, ◌++◌, ◌∷◌, arith, drop, length, map, subst}
-use Rattle.graph_model.specs.Answer.{Happened, row_fields}
+use Rattle.graph_model.specs.Answer.{MomentRow, row_fields}
 use Rattle.graph_model.specs.RowText.{rows_text}
 use Rattle.graph_model.specs.Output.{world_row}
 use Rattle.view_answers.specs.Moments.{kind_word, moment_rows}
@@ -11,7 +11,7 @@ loop-i-preserved c =
     let ms = c.args.moments.now in
     let m = c.item.result.now in
     let i = c.loop-i.i in
-    row_written (Happened i m.time (kind_word m.kind)) (moment_rows i (drop i ms)) (moment_rows (i + 1) (drop (i + 1) ms)) c.loop-i.out c.add_moment.new.out (moments_left ms i m c.item.ensures) c.in_ok-add_moment.ensures
+    row_written (MomentRow i m.time (kind_word m.kind)) (moment_rows i (drop i ms)) (moment_rows (i + 1) (drop (i + 1) ms)) c.loop-i.out c.add_moment.new.out (moments_left ms i m c.item.ensures) c.in_ok-add_moment.ensures
     ∙ c.loop-i.invariant
 
 pub returns : goal.returns

@@ -7,7 +7,7 @@ use Rattle.std.specs.Prelude.{codes}
 use Rattle.graph_model.specs.Names.{same_name}
 use Rattle.graph_store.specs.Contents.{Contents}
 use Rattle.graph_model.specs.Answer.{history_rows}
-use Rattle.materialise.specs.Moments.{moment_of}
+use Rattle.view_lists.specs.Moments.{moment_of_event}
 use Rattle.view_answers.proofs.Happenings.{node_part, none_part}
 use Rattle.view_answers.proofs.Unknown.{no_node, node_named}
 use Rattle.view_answers.proofs.histories.add_node_history.Goals as goal
@@ -17,7 +17,7 @@ returns-in_ok-moments-in-Some g c =
     let contents = g.V.View.contents c.args.view.now in
     let world = g.V.View.world c.args.view.now in
     let place : position (same_name c.args.node.now) contents.nodes ≡ Some c.in-Some.n.0 = ap (λ (s : Contents). position (same_name c.args.node.now) s.nodes) (sym c.store.ensures) ∙ sym c.in-Some.ensures.place in
-    let moments : c.in_ok-moments-in-Some.moments ≡ map moment_of (events_of world (Node c.args.node.now)) = c.in_ok-moments-in-Some.ensures ∙ ap (λ x. map moment_of (events_of world x)) (node_named contents c.args.node.now c.in-Some.n.0 place).1 in
+    let moments : c.in_ok-moments-in-Some.moments ≡ map moment_of_event (events_of world (Node c.args.node.now)) = c.in_ok-moments-in-Some.ensures ∙ ap (λ x. map moment_of_event (events_of world x)) (node_named contents c.args.node.now c.in-Some.n.0 place).1 in
     subst (λ rows. OnOk c.add_moments.result (c.add_moments.new.out ≡ c.args.out.now ++ rows_text rows)) (node_part world c.bounds.result c.in_ok-moments-in-Some.moments c.args.node.now c.bounds.ensures moments) c.add_moments.ensures
 
 pub returns-in-None : goal.returns-in-None

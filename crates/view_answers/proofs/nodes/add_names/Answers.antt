@@ -1,7 +1,7 @@
 use Rattle.std.proofs.Common.{◌≡◌, ◌∙◌, ◌+◌, ◌++◌, [], drop, map, subst, sym}
 use Rattle.std.proofs.lemmas.Option.{get_or_from_slice_get}
 use Rattle.csv.specs.Writing.{default_writer, row_text}
-use Rattle.graph_model.specs.Answer.{Row, Named, row_fields}
+use Rattle.graph_model.specs.Answer.{Row, NodeRow, row_fields}
 use Rattle.graph_store.specs.Contents.{name_at}
 use Rattle.walk_algorithms.specs.declared.degree_rows.Degree.{Degree}
 use Rattle.view_answers.proofs.Written.{item_left, row_written}
@@ -10,10 +10,10 @@ use Rattle.view_answers.proofs.nodes.add_names.Goals as goal
 pub loop-i-preserved : goal.loop-i-preserved
 loop-i-preserved c =
     let names = c.args.store.now.nodes in
-    let f : Degree → Row = λ d. Named (name_at names d.node.0) in
+    let f : Degree → Row = λ d. NodeRow (name_at names d.node.0) in
     let rows = c.args.rows.now in
     let x = c.item-degree.result.now in
     let i = c.loop-i.i in
     let name : c.node_name.result.now ≡ name_at names x.node.0 = sym (get_or_from_slice_get names x.node.0 c.node_name.result.now [] c.node_name.ensures) in
-    let written : c.add_name.new.out ≡ c.loop-i.out ++ row_text default_writer (row_fields (f x)) = subst (λ n. c.add_name.new.out ≡ c.loop-i.out ++ row_text default_writer (row_fields (Named n))) name c.in_ok-add_name.ensures in
+    let written : c.add_name.new.out ≡ c.loop-i.out ++ row_text default_writer (row_fields (f x)) = subst (λ n. c.add_name.new.out ≡ c.loop-i.out ++ row_text default_writer (row_fields (NodeRow n))) name c.in_ok-add_name.ensures in
     row_written (f x) (map f (drop i rows)) (map f (drop (i + 1) rows)) c.loop-i.out c.add_name.new.out (item_left f rows i x c.item-degree.ensures) written ∙ c.loop-i.invariant

@@ -5,7 +5,13 @@ use Rattle.graph_model.specs.Presence.{nodes}
 use Rattle.graph_store.specs.Contents.{Contents}
 use Rattle.walk_algorithms.specs.Degrees.{degree_row_of}
 use Rattle.view_answers.proofs.Written.{part_of}
+use Rattle.view_trait.proofs.Covered.{Covers-whole}
 use Rattle.view_answers.proofs.nodes.add_node_degrees.Goals as goal
+
+pub degrees-requires : goal.degrees-requires
+degrees-requires g c = record {
+  covers = Covers-whole (g.V.View.contents c.args.view.now) (g.V.View.world c.args.view.now);
+}
 
 pub returns-clause-rows : goal.returns-clause-rows
 returns-clause-rows g c =

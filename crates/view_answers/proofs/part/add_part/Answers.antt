@@ -3,25 +3,25 @@ use Rattle.std.specs.Prelude.{OnOk}
 use Rattle.std.proofs.lemmas.Int.{to_z-of_z}
 use Rattle.graph_model.specs.declared.events.Entity.TheVariants.{Node, Edge}
 use Rattle.graph_model.specs.declared.queries.Ask.TheVariants.{Nodes, Edges, Events, Degree, NodeHistory, EdgeHistory, NodeValue, EdgeValue, EdgeAlive, Materialise}
-use Rattle.graph_model.specs.Answer.{Named, Linked, Lives, degree_row, edge_kind, extent_row, history_rows, value_rows, world_rows}
+use Rattle.graph_model.specs.Answer.{NodeRow, EdgeRow, AliveRow, degree_row, edge_kind, extent_row, history_rows, value_rows, world_rows}
 use Rattle.graph_model.specs.Compare.{value_of}
 use Rattle.graph_model.specs.Presence.{alive_at, edges, nodes}
 use Rattle.graph_model.specs.RowText.{rows_text}
 use Rattle.graph_model.specs.World.{events_of}
 use Rattle.world_laws.proofs.Answers.{answer_alive, answer_degree, answer_edge_history, answer_edge_value, answer_edges, answer_events, answer_node_history, answer_node_value, answer_nodes}
-use Rattle.view_answers.specs.Parts.{part_rows}
+use Rattle.view_answers.specs.WorldPart.{part_rows}
 use Rattle.view_answers.proofs.Plainly.{part_added}
 use Rattle.view_answers.proofs.part.add_part.Goals as goal
 
 pub returns-in-Nodes-clause-part : goal.returns-in-Nodes-clause-part
 returns-in-Nodes-clause-part g c =
     let w = g.V.View.world c.args.view.now in
-    part_added c.add_nodes.result w c.args.ask.now Nodes (map Named (nodes w)) c.args.out.now c.add_nodes.new.out c.in-Nodes.is (answer_nodes w) c.add_nodes.ensures.rows
+    part_added c.add_nodes.result w c.args.ask.now Nodes (map NodeRow (nodes w)) c.args.out.now c.add_nodes.new.out c.in-Nodes.is (answer_nodes w) c.add_nodes.ensures.rows
 
 pub returns-in-Edges-clause-part : goal.returns-in-Edges-clause-part
 returns-in-Edges-clause-part g c =
     let w = g.V.View.world c.args.view.now in
-    part_added c.add_edges.result w c.args.ask.now Edges (map Linked (edges w)) c.args.out.now c.add_edges.new.out c.in-Edges.is (answer_edges w) c.add_edges.ensures.rows
+    part_added c.add_edges.result w c.args.ask.now Edges (map EdgeRow (edges w)) c.args.out.now c.add_edges.new.out c.in-Edges.is (answer_edges w) c.add_edges.ensures.rows
 
 pub returns-in-Events-clause-part : goal.returns-in-Events-clause-part
 returns-in-Events-clause-part g c =
@@ -66,5 +66,5 @@ returns-in-EdgeAlive-clause-part g c =
     let old = c.args.out.now in
     let new = c.add_edge_alive.new.out in
     let same : to_z w64 (of_z w64 m) ≡ m = to_z-of_z w64 m (search rules) in
-    part_added c.add_edge_alive.result w c.args.ask.now (EdgeAlive edge m) (Lives (alive_at w edge m) ∷ []) old new c.in-EdgeAlive.is (answer_alive w edge m)
-    (subst (λ t. OnOk c.add_edge_alive.result (new ≡ old ++ rows_text (part_rows w (Lives (alive_at w edge t) ∷ [])))) same c.add_edge_alive.ensures.rows)
+    part_added c.add_edge_alive.result w c.args.ask.now (EdgeAlive edge m) (AliveRow (alive_at w edge m) ∷ []) old new c.in-EdgeAlive.is (answer_alive w edge m)
+    (subst (λ t. OnOk c.add_edge_alive.result (new ≡ old ++ rows_text (part_rows w (AliveRow (alive_at w edge t) ∷ [])))) same c.add_edge_alive.ensures.rows)

@@ -5,7 +5,7 @@ use Rattle.graph_store.specs.Contents.{Contents, base_of}
 use Rattle.graph_store.specs.Keys.{key_name}
 use Rattle.graph_model.specs.World.{events_of}
 use Rattle.view_trait.specs.Meaning.{node_at}
-use Rattle.view_trait.proofs.Costs.{IsWithin-among}
+use Rattle.view_trait.proofs.Costs.{StepsWithin-among}
 use Rattle.view_trait.proofs.Found.{events_fit, node_tells}
 use Rattle.view_answers.proofs.Asked.{value_is}
 use Rattle.view_answers.proofs.point.node_value.Goals as goal
@@ -22,4 +22,4 @@ pub returns-clause-cost : goal.returns-clause-cost
 returns-clause-cost g c =
     let contents = g.V.View.contents c.args.view.now in
     let x = node_at contents c.args.n.0 in
-    IsWithin-among c.args.steps.now c.node_span-span.new.steps (g.V.View.searches c.args.view.now).nodes (length (events_of (base_of contents) x)) (length contents.accepted) c.node_span-span.ensures.cost (events_fit contents x)
+    StepsWithin-among c.args.steps.now c.node_span-span.new.steps (g.V.View.searches c.args.view.now).nodes (length (events_of (base_of contents) x)) (length contents.accepted) c.node_span-span.ensures.cost (events_fit contents x)

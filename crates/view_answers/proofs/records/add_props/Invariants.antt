@@ -1,7 +1,7 @@
 use Rattle.std.proofs.Common.{◌≡◌, ◌++◌, [], drop, map}
 use Rattle.csv.specs.Records.{fields_of, partial_of}
 use Rattle.graph_model.specs.Record.{prop_text}
-use Rattle.materialise.specs.Borrowed.{props_borrowed}
+use Rattle.view_lists.specs.Borrowed.{props_borrowed}
 use Rattle.view_answers.proofs.records.add_props.Given as goal
 
 abbrev pub invariant-loop-property : goal.invariant-loop-property

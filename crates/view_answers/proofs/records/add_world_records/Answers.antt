@@ -1,7 +1,7 @@
 use Rattle.std.proofs.Common.{◌≡◌, ◌∙◌, ◌+◌, suc, length, map, ap, subst, sym, arith}
 use Rattle.std.specs.List.{All}
-use Rattle.materialise.specs.Listing.{IsPlaced, event_placed}
-use Rattle.materialise.specs.Types.{types_listed}
+use Rattle.view_lists.specs.Listing.{IsPlaced, event_placed}
+use Rattle.view_lists.specs.Types.{types_listed}
 use Rattle.view_answers.proofs.RecordRows.{records_part}
 use Rattle.view_answers.proofs.records.add_world_records.Goals as goal
 

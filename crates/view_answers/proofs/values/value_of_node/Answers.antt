@@ -10,9 +10,9 @@ use Rattle.graph_store.specs.Contents.{Contents}
 use Rattle.graph_store.specs.Keys.{key_name}
 use Rattle.time_history.specs.Asked.{AreNamed}
 use Rattle.graph_store.specs.Contents.{base_of}
-use Rattle.view_trait.specs.Meaning.{IsWithin, node_at}
+use Rattle.view_trait.specs.Meaning.{StepsWithin, node_at}
 use Rattle.view_trait.proofs.Found.{events_fit, node_tells}
-use Rattle.view_trait.proofs.Costs.{IsWithin-among}
+use Rattle.view_trait.proofs.Costs.{StepsWithin-among}
 use Rattle.view_answers.proofs.Asked.{value_is}
 use Rattle.view_answers.proofs.Unknown.{node_known, node_named, key_numbered, nothing_has_no_value, no_key, no_node}
 use Rattle.view_answers.proofs.values.value_of_node.Goals as goal
@@ -59,8 +59,8 @@ returns-in_err-number-clause-cost g c =
     let after = c.node_span-span.new.steps in
     let searches = (g.V.View.searches c.args.view.now).nodes in
     let place : position (same_name c.args.node.now) contents.nodes ≡ Some c.in_ok-n.n.0 = ap (λ (s : Contents). position (same_name c.args.node.now) s.nodes) (sym c.store-store.ensures) ∙ sym c.in_ok-n.ensures.place in
-    subst (λ b. IsWithin before after (cond b searches 0) (length contents.accepted)) (sym (node_known contents c.args.node.now c.in_ok-n.n.0 place))
-    (IsWithin-among before after searches (length (events_of (base_of contents) x)) (length contents.accepted) c.node_span-span.ensures.cost (events_fit contents x))
+    subst (λ b. StepsWithin before after (cond b searches 0) (length contents.accepted)) (sym (node_known contents c.args.node.now c.in_ok-n.n.0 place))
+    (StepsWithin-among before after searches (length (events_of (base_of contents) x)) (length contents.accepted) c.node_span-span.ensures.cost (events_fit contents x))
 
 pub returns-clause-cost : goal.returns-clause-cost
 returns-clause-cost g c =
@@ -70,5 +70,5 @@ returns-clause-cost g c =
     let after = c.node_span-span.new.steps in
     let searches = (g.V.View.searches c.args.view.now).nodes in
     let place : position (same_name c.args.node.now) contents.nodes ≡ Some c.in_ok-n.n.0 = ap (λ (s : Contents). position (same_name c.args.node.now) s.nodes) (sym c.store-store.ensures) ∙ sym c.in_ok-n.ensures.place in
-    subst (λ b. IsWithin before after (cond b searches 0) (length contents.accepted)) (sym (node_known contents c.args.node.now c.in_ok-n.n.0 place))
-    (IsWithin-among before after searches (length (events_of (base_of contents) x)) (length contents.accepted) c.node_span-span.ensures.cost (events_fit contents x))
+    subst (λ b. StepsWithin before after (cond b searches 0) (length contents.accepted)) (sym (node_known contents c.args.node.now c.in_ok-n.n.0 place))
+    (StepsWithin-among before after searches (length (events_of (base_of contents) x)) (length contents.accepted) c.node_span-span.ensures.cost (events_fit contents x))

@@ -6,9 +6,9 @@ use Rattle.graph_model.specs.Interval.{Interval}
 use Rattle.time_history.specs.Spans.{spelled}
 use Rattle.graph_store.specs.Contents.{Contents, key_names_for}
 use Rattle.view_trait.specs.Extent.{extent_of}
-use Rattle.view_trait.specs.Meaning.{IsWithin, Tells, node_at}
+use Rattle.view_trait.specs.Meaning.{StepsWithin, Tells, node_at}
 use Rattle.view_trait.proofs.Found.{node_tells, spelled_is, events_fit}
-use Rattle.view_trait.proofs.Costs.{IsWithin-among}
+use Rattle.view_trait.proofs.Costs.{StepsWithin-among}
 use Rattle.view_trait.proofs.SpanTimes.{few_told}
 use Rattle.view_trait.proofs.extent_of_view.node_extent.Given.{Over}
 use Rattle.view_trait.proofs.extent_of_view.node_extent.Goals.{After-span_extent}
@@ -41,5 +41,5 @@ returns-clause-few g c =
 pub returns-clause-cost : goal.returns-clause-cost
 returns-clause-cost g c =
     let contents = g.V.View.contents c.args.view.now in
-    let found : IsWithin c.args.steps.now c.node_span-span.new.steps (g.V.View.searches c.args.view.now).nodes (length contents.accepted) = IsWithin-among _ _ _ _ _ c.node_span-span.ensures.cost (events_fit contents (node_at contents c.args.n.0)) in
+    let found : StepsWithin c.args.steps.now c.node_span-span.new.steps (g.V.View.searches c.args.view.now).nodes (length contents.accepted) = StepsWithin-among _ _ _ _ _ c.node_span-span.ensures.cost (events_fit contents (node_at contents c.args.n.0)) in
     omega (arith, found, c.span_extent.ensures.cost)

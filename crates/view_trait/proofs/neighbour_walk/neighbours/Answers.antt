@@ -1,7 +1,7 @@
 use Rattle.std.proofs.Common.{◌≡◌, ◌∙◌, ℕ, List, Some, ap}
 use Rattle.graph_store.specs.Contents.{Contents}
-use Rattle.graph_store.specs.Paired.{pairs_from, pairs_to}
-use Rattle.view_trait.proofs.NodePairs.{walk_outward, walk_inward, walk_both_ways, IsWalk-outward, IsWalk-inward, IsWalk-both_ways}
+use Rattle.graph_store.specs.PairIndex.{pairs_from, pairs_to}
+use Rattle.view_trait.proofs.NodePairs.{walk_outward, walk_inward, walk_both_ways, IsNeighbourWalk-outward, IsNeighbourWalk-inward, IsNeighbourWalk-both_ways}
 use Rattle.view_trait.proofs.neighbour_walk.neighbours.Goals.{in-Outward, in-Inward, in-Both}
 use Rattle.view_trait.proofs.neighbour_walk.neighbours.Goals as goal
 
@@ -18,9 +18,9 @@ invariant_of-result g c =
     let s = c.store-store.result.now in
     let n = c.args.n.0 in
     elim c.match-direction.branch [
-      | in-Outward w ↦ IsWalk-outward contents n _ _ c.requires (ap (λ t. t.0) w.out-is ∙ from s contents n w.out_pairs.result w.out_pairs.ensures c.store-store.ensures) (ap (λ t. t.1) w.out-is)
-      | in-Inward w ↦ IsWalk-inward contents n _ _ c.requires (ap (λ t. t.0) w.out-is) (ap (λ t. t.1) w.out-is ∙ to s contents n w.in_pairs.result w.in_pairs.ensures c.store-store.ensures)
-      | in-Both w ↦ IsWalk-both_ways contents n _ _ c.requires (ap (λ t. t.0) w.out-is ∙ from s contents n w.out_pairs-in-Both.result w.out_pairs-in-Both.ensures c.store-store.ensures) (ap (λ t. t.1) w.out-is ∙ to s contents n w.in_pairs-in-Both.result w.in_pairs-in-Both.ensures c.store-store.ensures)
+      | in-Outward w ↦ IsNeighbourWalk-outward contents n _ _ c.requires (ap (λ t. t.0) w.out-is ∙ from s contents n w.out_pairs.result w.out_pairs.ensures c.store-store.ensures) (ap (λ t. t.1) w.out-is)
+      | in-Inward w ↦ IsNeighbourWalk-inward contents n _ _ c.requires (ap (λ t. t.0) w.out-is) (ap (λ t. t.1) w.out-is ∙ to s contents n w.in_pairs.result w.in_pairs.ensures c.store-store.ensures)
+      | in-Both w ↦ IsNeighbourWalk-both_ways contents n _ _ c.requires (ap (λ t. t.0) w.out-is ∙ from s contents n w.out_pairs-in-Both.result w.out_pairs-in-Both.ensures c.store-store.ensures) (ap (λ t. t.1) w.out-is ∙ to s contents n w.in_pairs-in-Both.result w.in_pairs-in-Both.ensures c.store-store.ensures)
     ]
 
 pub returns : goal.returns

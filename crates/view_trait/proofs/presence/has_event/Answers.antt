@@ -1,7 +1,7 @@
 use Rattle.std.proofs.Common.{sym, ◌∙◌, length}
 use Rattle.graph_model.specs.Entity.{is_about}
 use Rattle.view_trait.specs.Meaning.{node_at}
-use Rattle.view_trait.proofs.Costs.{IsWithin-among}
+use Rattle.view_trait.proofs.Costs.{StepsWithin-among}
 use Rattle.view_trait.proofs.Found.{any_last, node_tells, has_last, events_fit}
 use Rattle.view_trait.proofs.presence.has_event.Goals as goal
 
@@ -18,4 +18,4 @@ returns-clause-event g c =
 pub returns-clause-cost : goal.returns-clause-cost
 returns-clause-cost g c =
     let s = g.V.View.contents c.args.view.now in
-    IsWithin-among c.args.steps.now c.node_span-span.new.steps (g.V.View.searches c.args.view.now).nodes _ (length s.accepted) c.node_span-span.ensures.cost (events_fit s (node_at s c.args.n.0))
+    StepsWithin-among c.args.steps.now c.node_span-span.new.steps (g.V.View.searches c.args.view.now).nodes _ (length s.accepted) c.node_span-span.ensures.cost (events_fit s (node_at s c.args.n.0))

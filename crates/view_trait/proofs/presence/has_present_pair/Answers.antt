@@ -1,7 +1,7 @@
 use Rattle.std.proofs.Common.{◌≡◌, ◌<◌, length, sym, ap, subst, ◌∙◌}
 use Rattle.std.specs.List.{AllByRecursion}
 use Rattle.graph_store.specs.Contents.{Contents}
-use Rattle.graph_store.specs.Paired.{pairs_from, pairs_to}
+use Rattle.graph_store.specs.PairIndex.{pairs_from, pairs_to}
 use Rattle.view_trait.proofs.Pairs.{pairs_from_within, pairs_to_within}
 use Rattle.view_trait.proofs.presence.has_present_pair.Goals as goal
 

@@ -3,11 +3,11 @@ use Rattle.std.specs.List.{list_any, AllByRecursion}
 use Rattle.std.proofs.lemmas.Bool.{or_left}
 use Rattle.graph_model.specs.Presence.{edge_present}
 use Rattle.graph_store.specs.Ends.{ends_at}
-use Rattle.graph_store.specs.Linked.{edges_between}
+use Rattle.graph_store.specs.EdgeIndex.{edges_between}
 use Rattle.graph_store.specs.Contents.{Contents}
 use Rattle.view_trait.specs.Meaning.{edge_named}
 use Rattle.view_trait.specs.Present.{edge_count}
-use Rattle.view_trait.proofs.Costs.{IsWithin-each, IsWithin-times}
+use Rattle.view_trait.proofs.Costs.{StepsWithin-each, StepsWithin-times}
 use Rattle.view_trait.proofs.Pairs.{edges_within, pair_is}
 use Rattle.view_trait.proofs.presence.pair_present.Goals as goal
 
@@ -34,7 +34,7 @@ loop-e-preserved g c =
       within = (subst (AllByRecursion (λ e. e < length contents.edges)) c.in-Some.ensures.steps c.loop-e.invariant.within).1;
       left = c.loop-e.invariant.left ∙ (ap (list_any shows) c.in-Some.ensures.steps ∙ ap (λ b. b || list_any shows rest) (sym c.edge_present.ensures.present ∙ c.if-edge_present.false));
       few = (let n = c.loop-e.invariant.few in omega (arith, n, more));
-      cost = λ h. IsWithin-each _ _ _ (edge_count contents c.args.p.0) _ _ _ _ more c.loop-e.invariant.few (c.loop-e.invariant.cost h) (c.edge_present.ensures.cost h);
+      cost = λ h. StepsWithin-each _ _ _ (edge_count contents c.args.p.0) _ _ _ _ more c.loop-e.invariant.few (c.loop-e.invariant.cost h) (c.edge_present.ensures.cost h);
     }
 
 pub returns-then-edge_present-clause-cost : goal.returns-then-edge_present-clause-cost
@@ -42,13 +42,13 @@ returns-then-edge_present-clause-cost g c = λ h.
     let contents = g.V.View.contents c.args.view.now in
     let all = edge_count contents c.args.p.0 in
     let more : length c.loop-e.edges ≡ length c.next.new.self + 1 = ap length c.in-Some.ensures.steps ∙ omega arith in
-    let made = IsWithin-each _ _ _ all _ _ _ _ more c.loop-e.invariant.few (c.loop-e.invariant.cost h) (c.edge_present.ensures.cost h) in
-    IsWithin-times _ _ (all - length c.next.new.self) all _ _ (omega arith) made
+    let made = StepsWithin-each _ _ _ all _ _ _ _ more c.loop-e.invariant.few (c.loop-e.invariant.cost h) (c.edge_present.ensures.cost h) in
+    StepsWithin-times _ _ (all - length c.next.new.self) all _ _ (omega arith) made
 
 pub returns-clause-cost : goal.returns-clause-cost
 returns-clause-cost g c = λ h.
     let all = edge_count (g.V.View.contents c.args.view.now) c.args.p.0 in
-    IsWithin-times _ _ (all - length c.loop-e.edges) all _ _ (omega arith) (c.loop-e.invariant.cost h)
+    StepsWithin-times _ _ (all - length c.loop-e.edges) all _ _ (omega arith) (c.loop-e.invariant.cost h)
 
 pub returns-then-edge_present-clause-present : goal.returns-then-edge_present-clause-present
 returns-then-edge_present-clause-present g c =

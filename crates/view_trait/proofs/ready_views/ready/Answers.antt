@@ -3,7 +3,7 @@ use Rattle.std.specs.List.{list_all}
 use Rattle.std.proofs.lemmas.List.{map-append}
 use Rattle.std.proofs.Math.Seq.{take-length}
 use Rattle.graph_model.specs.Range.{op_in_range}
-use Rattle.graph_model.specs.Searches.{kind_of}
+use Rattle.graph_model.specs.Searches.{kind_of_view}
 use Rattle.graph_model.specs.Stack.{apply}
 use Rattle.graph_store.specs.Contents.{base_of}
 use Rattle.view_trait.specs.Ready.{ready_view, ready_apply, ready_kind, in_range}
@@ -46,8 +46,8 @@ loop-i-preserved c =
           ap (map ready_kind) pushed
           ∙ (map-append ready_kind c.loop-i.ops (ready ∷ [])
           ∙ (ap (λ ks. ks ++ ready_kind ready ∷ []) c.loop-i.invariant.kinds
-          ∙ (ap (λ k. map kind_of (take i views) ++ k ∷ []) c.in_ok-ready_op.ensures.kind
-          ∙ (sym (map-append kind_of (take i views) (op ∷ [])) ∙ ap (map kind_of) (sym more)))));
+          ∙ (ap (λ k. map kind_of_view (take i views) ++ k ∷ []) c.in_ok-ready_op.ensures.kind
+          ∙ (sym (map-append kind_of_view (take i views) (op ∷ [])) ∙ ap (map kind_of_view) (sym more)))));
     }
 
 pub returns-clause-base : goal.returns-clause-base

@@ -1,6 +1,6 @@
 use Rattle.std.proofs.Common.{◌≡◌, true, map, take}
 use Rattle.std.specs.List.{list_all}
-use Rattle.graph_model.specs.Searches.{kind_of}
+use Rattle.graph_model.specs.Searches.{kind_of_view}
 use Rattle.graph_model.specs.Stack.{apply}
 use Rattle.graph_model.specs.World.{World}
 use Rattle.view_trait.specs.Drawn.{IsDrawn}
@@ -11,5 +11,5 @@ abbrev pub invariant-loop-i : goal.invariant-loop-i
 invariant-loop-i l = record {
   world : (w : World) → IsDrawn l.fn.store w → ready_apply l.fn.store l.ops w ≡ apply (take l.i l.fn.views) w;
   in_range : list_all in_range l.ops ≡ true;
-  kinds : map ready_kind l.ops ≡ map kind_of (take l.i l.fn.views);
+  kinds : map ready_kind l.ops ≡ map kind_of_view (take l.i l.fn.views);
 }

@@ -1,5 +1,5 @@
 use Rattle.std.proofs.Common.{arith, inl, inr, subst, sym}
-use Rattle.walk_algorithms.specs.Counted.{IsCounted}
+use Rattle.walk_algorithms.specs.Counted.{CountsWays}
 use Rattle.present_links.specs.Links.{ends_in}
 use Rattle.walk_algorithms.proofs.Counted.{counted_all, counted_none, dst_few, src_few, step_counted}
 use Rattle.walk_algorithms.proofs.link_ways.count_links.Goals.{then-paired, else-paired, then-paired-2, else-paired-2}
@@ -7,7 +7,7 @@ use Rattle.walk_algorithms.proofs.link_ways.count_links.Goals as goal
 
 pub loop-i-init : goal.loop-i-init
 loop-i-init c = record {
-  counted = subst (IsCounted _ _) (sym c.new-ways.ensures) (counted_none (ends_in c.args.links.now));
+  counted = subst (CountsWays _ _) (sym c.new-ways.ensures) (counted_none (ends_in c.args.links.now));
   cut = λ j k first. absurd (omega arith);
 }
 

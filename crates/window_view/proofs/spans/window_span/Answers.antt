@@ -2,8 +2,8 @@ use Rattle.std.proofs.Common.{◌≡◌, ℤ, ◌∙◌, sym, ap, subst, to_z, o
 use Rattle.std.proofs.lemmas.Int.{to_z-of_z}
 use mir.Val.{SFits}
 use Rattle.graph_model.specs.Interval.{Interval, cut}
-use Rattle.time_history.specs.Spans.{IsPart}
-use Rattle.view_trait.proofs.Shown.{IsPart-cut, Shows-clipped}
+use Rattle.time_history.specs.Spans.{IsEmptyOrInside}
+use Rattle.view_trait.proofs.Shown.{IsEmptyOrInside-cut, Shows-clipped}
 use Rattle.window_view.proofs.spans.window_span.Given.{Over}
 use Rattle.window_view.proofs.spans.window_span.Goals.{After-cut}
 use Rattle.window_view.proofs.spans.window_span.Goals as goal
@@ -16,7 +16,7 @@ cut_is g c =
     c.cut.ensures ∙ (ap (λ t. cut c.args.bounds t (to_z w64 (of_z w64 c.args.to))) (to_z-of_z w64 c.args.from fits_from) ∙ ap (λ t. cut c.args.bounds c.args.from t) (to_z-of_z w64 c.args.to fits_to))
 
 pub clip-requires-clause-part : goal.clip-requires-clause-part
-clip-requires-clause-part g c = subst (IsPart c.args.bounds) (sym c.cut.ensures) (IsPart-cut c.args.bounds _ _)
+clip-requires-clause-part g c = subst (IsEmptyOrInside c.args.bounds) (sym c.cut.ensures) (IsEmptyOrInside-cut c.args.bounds _ _)
 
 pub returns-clause-shows : goal.returns-clause-shows
 returns-clause-shows g c = λ contents w x shown model bounds tells shows.

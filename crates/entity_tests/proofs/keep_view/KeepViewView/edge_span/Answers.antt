@@ -1,7 +1,7 @@
 use Rattle.std.proofs.Common.{length, sym, subst, ◌∙◌}
-use Rattle.view_trait.specs.Meaning.{IsWithin, edge_at}
+use Rattle.view_trait.specs.Meaning.{StepsWithin, edge_at}
 use Rattle.view_trait.proofs.Shown.{Shows-kept, Shows-nothing}
-use Rattle.view_trait.proofs.Costs.{IsWithin-then}
+use Rattle.view_trait.proofs.Costs.{StepsWithin-then}
 use Rattle.entity_tests.proofs.Searches.{edge_searches_kept}
 use Rattle.entity_tests.proofs.keep_view.KeepViewView.edge_span.Goals as goal
 
@@ -25,12 +25,12 @@ pub returns-then-edge_passes_in-clause-cost : goal.returns-then-edge_passes_in-c
 returns-then-edge_passes_in-clause-cost g c =
     let view = c.args.self.now in
     let among = length (g.V.View.contents view.inner).accepted in
-    subst (λ k. IsWithin c.args.steps.now c.edge_passes_in.new.steps k among) (sym (edge_searches_kept (g.T.EntityTest.by_ends view.test) (g.V.View.searches view.inner)))
-    (IsWithin-then _ _ _ _ _ _ c.edge_span-span.ensures.cost c.edge_passes_in.ensures.cost)
+    subst (λ k. StepsWithin c.args.steps.now c.edge_passes_in.new.steps k among) (sym (edge_searches_kept (g.T.EntityTest.by_ends view.test) (g.V.View.searches view.inner)))
+    (StepsWithin-then _ _ _ _ _ _ c.edge_span-span.ensures.cost c.edge_passes_in.ensures.cost)
 
 pub returns-else-edge_passes_in-clause-cost : goal.returns-else-edge_passes_in-clause-cost
 returns-else-edge_passes_in-clause-cost g c =
     let view = c.args.self.now in
     let among = length (g.V.View.contents view.inner).accepted in
-    subst (λ k. IsWithin c.args.steps.now c.edge_passes_in.new.steps k among) (sym (edge_searches_kept (g.T.EntityTest.by_ends view.test) (g.V.View.searches view.inner)))
-    (IsWithin-then _ _ _ _ _ _ c.edge_span-span.ensures.cost c.edge_passes_in.ensures.cost)
+    subst (λ k. StepsWithin c.args.steps.now c.edge_passes_in.new.steps k among) (sym (edge_searches_kept (g.T.EntityTest.by_ends view.test) (g.V.View.searches view.inner)))
+    (StepsWithin-then _ _ _ _ _ _ c.edge_span-span.ensures.cost c.edge_passes_in.ensures.cost)

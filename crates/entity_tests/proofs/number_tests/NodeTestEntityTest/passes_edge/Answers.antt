@@ -1,11 +1,11 @@
 use Rattle.std.proofs.Common.{ℕ, ◌&&◌, sym, ap, ◌∙◌}
-use Rattle.graph_store.specs.Parts.{parts_at}
+use Rattle.graph_store.specs.EdgeParts.{parts_at}
 use Rattle.view_trait.specs.Numbered.{is_listed, keeps_number}
 use Rattle.view_trait.proofs.Kept.{ends_keep}
 use Rattle.entity_tests.proofs.number_tests.NodeTestEntityTest.passes_edge.Goals as goal
 
 pub returns : goal.returns
-returns c = λ w h.
+returns c = λ asked w h.
     let contents = c.args.store.now in
     let keeps = c.args.self.now.keeps in
     let nodes = c.args.self.now.nodes.now in

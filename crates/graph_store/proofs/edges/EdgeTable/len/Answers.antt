@@ -1,5 +1,5 @@
 use Rattle.std.proofs.Common.{arith, length, ap}
-use Rattle.graph_store.specs.Linked.{Linked}
+use Rattle.graph_store.specs.EdgeIndex.{EdgeIndex}
 use Rattle.graph_store.proofs.HeldLaws.{length-edges_from}
 use Rattle.graph_store.proofs.edges.EdgeTable.len.Goals as goal
 
@@ -11,4 +11,4 @@ overflow_cast-result c =
 pub returns-clause-len : goal.returns-clause-len
 returns-clause-len c =
     let s = c.self.inside in
-    omega (arith, c.len.ensures, s.pair_of.ok.0, length-edges_from s.pairs.pairs s.pair_of.items s.layer_of.items c.self.invariant.0.lengths, ap (λ (v : Linked). length v.edges) c.self.view_is)
+    omega (arith, c.len.ensures, s.pair_of.ok.0, length-edges_from s.pairs.pairs s.pair_of.items s.layer_of.items c.self.invariant.0.lengths, ap (λ (v : EdgeIndex). length v.edges) c.self.view_is)

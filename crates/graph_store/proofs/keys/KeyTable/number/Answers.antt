@@ -2,8 +2,8 @@ use Rattle.std.proofs.Common.{◌≡◌, ◌∙◌, ◌<◌, ℕ, length, sym, a
 use Rattle.std.specs.Prelude.{is_some}
 use Rattle.std.specs.List.{AllByRecursion}
 use Rattle.graph_model.specs.declared.properties.Value.{Value}
-use Rattle.time_history.specs.KeyValues.{KeysRise}
-use Rattle.time_history.specs.Told.{named}
+use Rattle.time_history.specs.KeyValues.{KeyNumbersRise}
+use Rattle.time_history.specs.Telling.{with_key_names}
 use Rattle.graph_store.specs.Keys.{type_in, key_name}
 use Rattle.graph_store.specs.Numbered.{pairs_in, put_number}
 use Rattle.graph_store.proofs.KeyLaws.{key_there, AreNumberedTo, numbered_more}
@@ -22,7 +22,7 @@ loop-i-preserved c =
     let put : pairs_in c.put.new.items.items ≡ put_number (c.number_of-key.result, c.value_at.result.now) (pairs_in c.loop-i.numbered.items) =
     c.in_ok-put.ensures.ok ∙ ap (λ v. put_number (c.number_of-key.result, v) (pairs_in c.loop-i.numbered.items)) c.in_ok-value.ensures in
     record {
-      names = ap (named (key_name c.args.self.now)) put ∙ new.named_so;
+      names = ap (with_key_names (key_name c.args.self.now)) put ∙ new.named_so;
       below = subst (AllByRecursion (λ (p : ℕ × Value). p.0 < length c.args.self.now)) (sym put) new.below;
-      rise = subst KeysRise (sym put) new.rise;
+      rise = subst KeyNumbersRise (sym put) new.rise;
     }

@@ -3,11 +3,11 @@ use Rattle.std.specs.Prelude.{position}
 use Rattle.indexmap.specs.IndexSet.{insert_key}
 use Rattle.graph_model.specs.Names.{same_name}
 use Rattle.graph_model.specs.World.{type_of}
-use Rattle.graph_store.specs.Typed.{kind_in}
+use Rattle.graph_store.specs.TypeIndex.{kind_in}
 use Rattle.graph_store.specs.Histories.{updates_in}
-use Rattle.graph_store.specs.Taken.{with_history}
+use Rattle.graph_store.specs.WithUpdate.{with_history}
 use Rattle.graph_store.specs.Contents.{Contents}
-use Rattle.graph_store.specs.Kept.{contents}
+use Rattle.graph_store.specs.StoreInvariant.{contents}
 use Rattle.graph_store.specs.WithType.{with_type}
 use Rattle.graph_store.proofs.TypeReaders.{number_untyped}
 use Rattle.graph_store.proofs.TakeType.{contents-typed, IsStored-typed}

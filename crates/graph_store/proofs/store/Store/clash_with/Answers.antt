@@ -2,9 +2,9 @@ use Rattle.std.proofs.Common.{◌≡◌, ◌∙◌, None, sym, ap, subst}
 use Rattle.std.specs.Prelude.{MatchOption}
 use Rattle.graph_model.specs.Entity.{subject, what_props}
 use Rattle.graph_model.specs.Accepting.{mistyped, kept_type}
-use Rattle.graph_store.specs.Judged.{IsMistyped}
+use Rattle.graph_store.specs.Refusals.{IsMistyped}
 use Rattle.graph_store.specs.Contents.{Contents}
-use Rattle.graph_store.specs.Kept.{contents}
+use Rattle.graph_store.specs.StoreInvariant.{contents}
 use Rattle.graph_store.proofs.JudgeLaws.{mistyped_is, alike-node, alike-edge}
 use Rattle.graph_store.proofs.store.Store.clash_with.Goals as goal
 

@@ -2,9 +2,9 @@ use Rattle.std.proofs.Common.{◌<◌, length, sym, subst}
 use Rattle.graph_model.specs.declared.events.Entity.TheVariants.{Edge}
 use Rattle.graph_store.specs.Keys.{key_name}
 use Rattle.graph_store.specs.Histories.{updates_in}
-use Rattle.graph_store.specs.Parts.{parts_at}
+use Rattle.graph_store.specs.EdgeParts.{parts_at}
 use Rattle.graph_store.specs.Contents.{Contents, edge_name}
-use Rattle.graph_store.specs.Kept.{contents}
+use Rattle.graph_store.specs.StoreInvariant.{contents}
 use Rattle.graph_store.proofs.Readers.{updates_at, edge_in_place}
 use Rattle.graph_store.proofs.HistoryLaws.{IsRead, edge_read}
 use Rattle.graph_store.proofs.store.Store.edge_history.Goals as goal

@@ -2,8 +2,8 @@ use Rattle.std.proofs.Common.{◌≡◌, [], ◌∷◌, ◌++◌, None, sym, sub
 use Rattle.graph_model.specs.Accepting.{passed_limit}
 use Rattle.graph_store.specs.Histories.{updates_in}
 use Rattle.graph_store.specs.Contents.{Contents}
-use Rattle.graph_store.specs.Kept.{contents}
-use Rattle.graph_store.specs.Accepted.{with_event, HasRoom}
+use Rattle.graph_store.specs.StoreInvariant.{contents}
+use Rattle.graph_store.specs.WithEvent.{with_event, HasRoom}
 use Rattle.graph_store.proofs.ApplyLaws.{not_refused, room, if_none}
 use Rattle.graph_store.proofs.store.Store.judge.Goals as goal
 

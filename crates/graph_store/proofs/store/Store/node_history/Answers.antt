@@ -3,7 +3,7 @@ use Rattle.graph_model.specs.declared.events.Entity.TheVariants.{Node}
 use Rattle.graph_store.specs.Keys.{key_name}
 use Rattle.graph_store.specs.Histories.{updates_in}
 use Rattle.graph_store.specs.Contents.{Contents, name_at}
-use Rattle.graph_store.specs.Kept.{contents}
+use Rattle.graph_store.specs.StoreInvariant.{contents}
 use Rattle.graph_store.proofs.Readers.{updates_at, node_in_place}
 use Rattle.graph_store.proofs.HistoryLaws.{IsRead, node_read}
 use Rattle.graph_store.proofs.store.Store.node_history.Goals as goal

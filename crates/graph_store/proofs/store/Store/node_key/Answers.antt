@@ -3,7 +3,7 @@ use Rattle.std.specs.List.{list_any}
 use Rattle.graph_model.specs.Names.{same_name}
 use Rattle.graph_model.specs.Accepting.{key_names, node_events}
 use Rattle.graph_store.specs.Contents.{Contents}
-use Rattle.graph_store.specs.Kept.{contents}
+use Rattle.graph_store.specs.StoreInvariant.{contents}
 use Rattle.graph_store.proofs.Readers.{none_found, one_found}
 use Rattle.graph_store.proofs.JudgeLaws.{same_keys}
 use Rattle.graph_store.proofs.store.Store.node_key.Goals as goal

@@ -3,7 +3,7 @@ use Rattle.graph_model.specs.World.{type_of}
 use Rattle.graph_model.specs.Accepting.{type_refusal}
 use Rattle.graph_store.specs.Contents.{Contents, name_at}
 use Rattle.graph_store.specs.WithType.{with_type}
-use Rattle.graph_store.specs.Kept.{contents}
+use Rattle.graph_store.specs.StoreInvariant.{contents}
 use Rattle.graph_store.proofs.TypeReaders.{typed_again, is_some-map}
 use Rattle.graph_store.proofs.store.Store.set_type.Goals as goal
 

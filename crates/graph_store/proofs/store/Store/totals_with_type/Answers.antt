@@ -1,17 +1,17 @@
 use Rattle.std.proofs.Common.{◌≡◌, ◌∙◌, [], ◌∷◌, ◌++◌, Some, sym, subst, arith}
 use Rattle.graph_model.specs.World.{type_of}
-use Rattle.graph_model.specs.Accepting.{Counted, count_of}
-use Rattle.graph_store.specs.Judged.{total_of}
+use Rattle.graph_model.specs.Accepting.{Quantity, count_of}
+use Rattle.graph_store.specs.Refusals.{total_of}
 use Rattle.graph_store.specs.Histories.{updates_in}
 use Rattle.graph_store.specs.Contents.{Contents}
-use Rattle.graph_store.specs.Kept.{contents}
+use Rattle.graph_store.specs.StoreInvariant.{contents}
 use Rattle.graph_store.proofs.JudgeLaws.{totals-type, none_above, count-known}
 use Rattle.graph_store.proofs.TypeReaders.{node_known, kind_known}
 use Rattle.graph_store.proofs.store.Store.totals_with_type.Goals as goal
 
 pub returns-clause-totals : goal.returns-clause-totals
 returns-clause-totals c =
-    subst (λ (v : Contents). (k : Counted) → total_of (record { events = c.self.inside.events; nodes = c.count_with.result; layers = c.len.result; node_keys = c.len-2.result; edge_keys = c.len-3.result; types = c.count_with-2.result }) k ≡ count_of k v.accepted (v.types ++ (c.args.node.now, c.args.kind.now) ∷ [])) c.self.view_is
+    subst (λ (v : Contents). (k : Quantity) → total_of (record { events = c.self.inside.events; nodes = c.count_with.result; layers = c.len.result; node_keys = c.len-2.result; edge_keys = c.len-3.result; types = c.count_with-2.result }) k ≡ count_of k v.accepted (v.types ++ (c.args.node.now, c.args.kind.now) ∷ [])) c.self.view_is
     (totals-type (contents c.self.inside) (updates_in c.self.inside.node_histories.items) (updates_in c.self.inside.edge_histories.items) c.self.invariant.contents_are
     c.len-node_limit.ensures.distinct c.len.ensures.distinct c.len-kind_limit.ensures.distinct c.len-2.ensures.distinct c.len-3.ensures.distinct c.args.node.now c.args.kind.now
     (record { events = c.self.inside.events; nodes = c.count_with.result; layers = c.len.result; node_keys = c.len-2.result; edge_keys = c.len-3.result; types = c.count_with-2.result })

@@ -6,20 +6,20 @@ use Rattle.graph_model.specs.Names.{same_name}
 use Rattle.graph_model.specs.Interval.{is_inside}
 use Rattle.graph_model.specs.World.{allows}
 use Rattle.graph_model.specs.Accepting.{mistyped}
-use Rattle.time_history.specs.History.{Known}
+use Rattle.time_history.specs.History.{UpdateList}
 use Rattle.graph_store.specs.Keys.{with_keys}
 use Rattle.graph_store.specs.Histories.{updates_in}
 use Rattle.graph_store.specs.Contents.{Contents}
 use Rattle.graph_store.specs.Indexed.{IsIndexed}
-use Rattle.graph_store.specs.Kept.{contents}
-use Rattle.graph_store.specs.Accepted.{edge_event, with_edge_event}
+use Rattle.graph_store.specs.StoreInvariant.{contents}
+use Rattle.graph_store.specs.WithEvent.{edge_event, with_edge_event}
 use Rattle.graph_store.proofs.TakeEdge.{edge_arrival, contents-edge_taken, IsStored-edge_taken, next_of_edge}
 use Rattle.graph_store.proofs.store.Store.update_edge.Goals as goal
 
 pub take_edge-requires-clause-next : goal.take_edge-requires-clause-next
 take_edge-requires-clause-next g c = λ values i lt.
     let len = c.self.inside.edge_histories.ok.0 in
-    let count = length-map c.self.inside.edge_histories.items (λ (h : Known). h.updates) in
+    let count = length-map c.self.inside.edge_histories.items (λ (h : UpdateList). h.updates) in
     next_of_edge (contents c.self.inside) (updates_in c.self.inside.node_histories.items) (updates_in c.self.inside.edge_histories.items) c.self.invariant.contents_are
     (edge_arrival (to_z w64 (of_z w64 c.args.time)) c.args.order c.args.kind c.self.inside.events) (sym c.self.invariant.events) c.requires.kind values i (omega arith)
 

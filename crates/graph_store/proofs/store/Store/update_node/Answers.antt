@@ -3,19 +3,19 @@ use Rattle.std.proofs.lemmas.Int.{to_z-of_z}
 use Rattle.std.proofs.lemmas.List.{length-map}
 use Rattle.graph_model.specs.Interval.{is_inside}
 use Rattle.graph_model.specs.Accepting.{mistyped}
-use Rattle.time_history.specs.History.{Known}
+use Rattle.time_history.specs.History.{UpdateList}
 use Rattle.graph_store.specs.Keys.{with_keys}
 use Rattle.graph_store.specs.Histories.{updates_in}
 use Rattle.graph_store.specs.Contents.{Contents}
-use Rattle.graph_store.specs.Kept.{contents}
-use Rattle.graph_store.specs.Accepted.{node_event, with_node_event}
+use Rattle.graph_store.specs.StoreInvariant.{contents}
+use Rattle.graph_store.specs.WithEvent.{node_event, with_node_event}
 use Rattle.graph_store.proofs.TakeNode.{contents-taken, IsStored-taken, next_of_node}
 use Rattle.graph_store.proofs.store.Store.update_node.Goals as goal
 
 pub take_node-requires-clause-next : goal.take_node-requires-clause-next
 take_node-requires-clause-next g c = λ values i lt.
     let len = c.self.inside.node_histories.ok.0 in
-    let count = length-map c.self.inside.node_histories.items (λ (h : Known). h.updates) in
+    let count = length-map c.self.inside.node_histories.items (λ (h : UpdateList). h.updates) in
     next_of_node (contents c.self.inside) (updates_in c.self.inside.node_histories.items) (updates_in c.self.inside.edge_histories.items) c.self.invariant.contents_are
     (to_z w64 (of_z w64 c.args.time)) c.args.order c.self.inside.events (sym c.self.invariant.events) values i (omega arith)
 

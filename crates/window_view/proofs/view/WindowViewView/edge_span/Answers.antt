@@ -5,7 +5,7 @@ use Rattle.graph_model.specs.Window.{window}
 use Rattle.time_history.specs.Spans.{IsAllowed}
 use Rattle.view_trait.specs.Meaning.{Shows, edge_at}
 use Rattle.view_trait.proofs.Found.{IsFound, edge_tells, model_found, span_found, taken_found, span_fits_store}
-use Rattle.view_trait.proofs.Costs.{IsWithin-more}
+use Rattle.view_trait.proofs.Costs.{StepsWithin-more}
 use Rattle.window_view.proofs.view.WindowViewView.edge_span.Given.{Over}
 use Rattle.window_view.proofs.view.WindowViewView.edge_span.Goals.{After-model}
 use Rattle.window_view.proofs.view.WindowViewView.edge_span.Goals as goal
@@ -44,4 +44,4 @@ returns-clause-shows g c =
 pub returns-clause-cost : goal.returns-clause-cost
 returns-clause-cost g c =
     let f = found g (goal.at.returns-clause-cost g c).After-model in
-    IsWithin-more _ c.edge_span-span.new.steps _ _ 2 _ (c.edge_span-span.result.to - c.edge_span-span.result.from) c.edge_span-span.ensures.cost c.window_span.ensures.cost (span_fits_store _ _ _ _ _ _ _ f)
+    StepsWithin-more _ c.edge_span-span.new.steps _ _ 2 _ (c.edge_span-span.result.to - c.edge_span-span.result.from) c.edge_span-span.ensures.cost c.window_span.ensures.cost (span_fits_store _ _ _ _ _ _ _ f)

@@ -1,4 +1,0 @@
-use Rattle.view_nests.proofs.listing.three_edges_have_their_degrees.Given as goal
-
-abbrev pub ghosts-degrees_of_a_store : goal.ghosts-degrees_of_a_store
-ghosts-degrees_of_a_store g a = record { name = a.blank.name; parts = a.blank.parts }

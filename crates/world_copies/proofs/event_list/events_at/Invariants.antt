@@ -1,6 +1,0 @@
-use Rattle.std.proofs.Common.{◌≡◌, map, take}
-use Rattle.materialise.specs.Listing.{event_placed}
-use Rattle.world_copies.proofs.event_list.events_at.Given as goal
-
-abbrev pub invariant-loop-place : goal.invariant-loop-place
-invariant-loop-place g l = l.events ≡ map (event_placed (g.V.View.world l.view) l.shown) (take l.place-index l.places)
