@@ -2,14 +2,17 @@
 use Rattle.std.proofs.Common.{◌≡◌, ℕ, ◌<◌, ◌≤◌, List, [], ◌∷◌, ◌++◌, Bool, true, false, cond, not, ◌||◌, length, refl, sym, ap, ◌∙◌, arith, subst, append-nil, ⊎_elim}
 use Rattle.std.specs.Prelude.{is_some, option_map, slice_set}
 use Rattle.std.specs.Option.{option_or}
-use Rattle.std.specs.List.{list_any, filter, AllByRecursion}
+use Rattle.std.specs.List.{list_any, AllByRecursion}
 use Rattle.std.proofs.lemmas.List.{get_or-map, length-map, map-append, length_push}
 use Rattle.std.proofs.lemmas.List.Folds.{list_any-append}
+use Rattle.std.proofs.lemmas.List.Elements.{filter-append}
 use Rattle.std.proofs.lemmas.Bool.{true≢false, or_parts, cases_lt}
 use Rattle.std.proofs.Math.ListN.{get_or-append}
 use Rattle.std.proofs.Math.Seq.{get_or-append_seam}
 use Rattle.world_laws.proofs.Order.{same_entity-refl}
 use Rattle.world_laws.proofs.Listed.{about-arrange}
+use Rattle.world_laws.proofs.Filters.{each_append, filter_none}
+use Rattle.world_laws.proofs.Named.{each_fails}
 use Rattle.indexmap.specs.IndexSet.{insert_key}
 use Rattle.graph_model.specs.declared.properties.Value.{Value}
 use Rattle.graph_model.specs.declared.events.EdgeName.{EdgeName}
@@ -34,13 +37,10 @@ use Rattle.graph_store.specs.Telling.{entity_at, updates_of_number, IsStoredUpda
 use Rattle.graph_store.specs.WithUpdate.{with_history}
 use Rattle.graph_store.specs.Contents.{Contents, AreContents, name_at, edge_name, node_entities, edge_entities}
 use Rattle.graph_store.proofs.KeyLaws.{type_in-with_keys, first_type, key_name-with_keys, length-with_keys}
-use Rattle.graph_store.proofs.FiledLaws.{HasOneMore, one_more-put, one_more-map, one_more-behind, all_arrived-set, all_arrived-push, all_arrived-below, both_below, arrived_more}
+use Rattle.graph_store.proofs.FiledLaws.{HasOneMore, one_more-put, one_more-map, one_more-behind, all_arrived-set, all_arrived-push, all_arrived-below, arrived_more}
 use Rattle.graph_store.proofs.StoreLaws.{TellEvents-other, TellEvents-empty, TellEvents-keys, TellEvents-known, TellEvents-new, all_arrived-same}
-use Rattle.graph_store.proofs.AcceptNode.{or-nothing, or-swap, unnamed, filter-append, flat_map-last, prop_value-append, insert_key-has, name_at-insert, edge_entities-same, new_apart, about_none}
-
-filter_fails : (p : Event → Bool) (ys : List Event) → list_any p ys ≡ false → filter p ys ≡ []
-filter_fails p [] e = refl
-filter_fails p (y ∷ ys) e = let parts = or_parts (p y) (list_any p ys) e in ap (λ t. cond t (y ∷ filter p ys) (filter p ys)) parts.0 ∙ filter_fails p ys parts.1
+use Rattle.graph_store.proofs.AcceptNode.{unnamed, flat_map-last, prop_value-append, insert_key-has, name_at-insert, edge_entities-same, new_apart, about_none}
+use Rattle.graph_store.proofs.Joined.{or-nothing, or-absorbed, or-swap}
 
 pub length-insert_key : (names : List (List ℕ)) (name : List ℕ) → length names ≤ length (insert_key same_name names name)
 length-insert_key names name = go (list_any (same_name name) names)
@@ -166,7 +166,7 @@ module _ (c : Contents) (node_updates edge_updates : List (List Update)) (h : Ar
 
   before_below : AllByRecursion (λ (q : ℕ × Event). q.0 < length c.accepted) (all_arrived (key_name c.node_keys) (node_entities nodes_after) updates_after ++ all_arrived (key_name (with_keys c.edge_keys props)) (edge_entities c.nodes c.layers c.edges) edge_updates)
   before_below =
-      both_below (length c.accepted) (all_arrived (key_name c.node_keys) (node_entities nodes_after) updates_after) (all_arrived (key_name (with_keys c.edge_keys props)) (edge_entities c.nodes c.layers c.edges) edge_updates)
+      each_append (λ (q : ℕ × Event). q.0 < length c.accepted) (all_arrived (key_name c.node_keys) (node_entities nodes_after) updates_after) (all_arrived (key_name (with_keys c.edge_keys props)) (edge_entities c.nodes c.layers c.edges) edge_updates)
       (subst (AllByRecursion (λ (q : ℕ × Event). q.0 < length c.accepted)) (sym nodes_arrived-edge) (all_arrived-below (key_name c.node_keys) (length c.node_keys) (length c.accepted) (node_entities c.nodes) node_updates h.nodes_told.kept))
       (all_arrived-below (key_name (with_keys c.edge_keys props)) (length (with_keys c.edge_keys props)) (length c.accepted) (edge_entities c.nodes c.layers c.edges) edge_updates edges_before.kept)
 
@@ -208,16 +208,11 @@ module _ (c : Contents) (node_updates edge_updates : List (List Update)) (h : Ar
         (subst (λ q. HasOneMore q (all_arrived (key_name (with_keys c.edge_keys props)) (edge_entities c.nodes c.layers c.edges) edge_updates) (all_arrived (key_name (with_keys c.edge_keys props)) (edge_entities c.nodes c.layers c.edges) (slice_set edge_updates i (placed u (updates_of_number edge_updates i))))) at_last
         (all_arrived-set (key_name (with_keys c.edge_keys props)) (edge_entities c.nodes c.layers c.edges) edge_updates i (placed u (updates_of_number edge_updates i)) (entity_of x) (u.arrival, event_told (entity_of x) (key_name (with_keys c.edge_keys props)) u) edges_before.lengths (subst (λ k. i < k) edges_before.lengths in_entities) (at (entity_of x)) one))
         (TellEvents-known (key_name (with_keys c.edge_keys props)) (length (with_keys c.edge_keys props)) (edge_entities c.nodes c.layers c.edges) edge_updates c.accepted x i u in_entities (at (Node [])) told new edges_before)
-        (λ e. absorbed (list_any (same_entity (Edge e)) (edge_entities c.nodes c.layers c.edges)) (is_about (Edge e) x)
+        (λ e. or-absorbed (list_any (same_entity (Edge e)) (edge_entities c.nodes c.layers c.edges)) (is_about (Edge e) x)
         (λ s. list_any-place (same_entity (Edge e)) (edge_entities c.nodes c.layers c.edges) i (Node []) in_entities (ap (same_entity (Edge e)) (at (Node [])) ∙ s))
         ∙ (ap (λ t. t || is_about (Edge e) x) (h.known_edges e)
         ∙ sym (list_any-append (is_about (Edge e)) c.accepted (x ∷ []) ∙ ap (λ t. list_any (is_about (Edge e)) c.accepted || t) (or-nothing (is_about (Edge e) x)))))
         within-old
-      where
-        absorbed : (a b : Bool) → (b ≡ true → a ≡ true) → a ≡ (a || b)
-        absorbed true b f = refl
-        absorbed false true f = f refl
-        absorbed false false f = refl
 
     -- a new edge begins its history with the event
     pub AreContents-new_edge : (parts : EdgeParts) → edge_name nodes_after layers_after parts ≡ edge → parts.src < length nodes_after → parts.dst < length nodes_after → parts.layer < length layers_after
@@ -238,7 +233,7 @@ module _ (c : Contents) (node_updates edge_updates : List (List Update)) (h : Ar
         }))
         (TellEvents-new (key_name (with_keys c.edge_keys props)) (length (with_keys c.edge_keys props)) (edge_entities c.nodes c.layers c.edges) edge_updates c.accepted x u
         (λ i lt e. true≢false (sym (list_any-place (same_entity (Edge edge)) (edge_entities c.nodes c.layers c.edges) i (Node []) lt (ap (same_entity (Edge edge)) (e ∙ own) ∙ same_entity-refl (Edge edge))) ∙ absent))
-        (ap (λ w. about w (arrange c.accepted)) own ∙ (about-arrange (Edge edge) c.accepted ∙ ap arrange (filter_fails (is_about (Edge edge)) c.accepted (sym (h.known_edges edge) ∙ absent))))
+        (ap (λ w. about w (arrange c.accepted)) own ∙ (about-arrange (Edge edge) c.accepted ∙ ap arrange (filter_none (is_about (Edge edge)) c.accepted (each_fails (is_about (Edge edge)) c.accepted (sym (h.known_edges edge) ∙ absent)))))
         told new edges_before)
         (λ e.
         list_any-append (same_entity (Edge e)) (edge_entities c.nodes c.layers c.edges) (entity_of x ∷ [])

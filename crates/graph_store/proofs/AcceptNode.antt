@@ -8,6 +8,7 @@ use Rattle.std.proofs.lemmas.Bool.{true≢false, or_parts, or_left, false_from_n
 use Rattle.world_laws.proofs.Listed.{about-arrange}
 use Rattle.std.specs.Prelude.{slice_set}
 use Rattle.std.proofs.lemmas.List.Folds.{list_any-append}
+use Rattle.std.proofs.lemmas.List.Elements.{filter-append}
 use Rattle.std.proofs.Math.ListN.{get_or-append}
 use Rattle.indexmap.specs.IndexSet.{insert_key}
 use Rattle.graph_model.specs.declared.properties.Value.{Value}
@@ -21,12 +22,13 @@ use Rattle.graph_model.specs.Entity.{entity_of, is_node, is_about, about, same_e
 use Rattle.graph_model.specs.World.{names_node, type_of, arrange}
 use Rattle.graph_model.specs.Accepting.{kept_type, node_events, edge_events, properties_of, layer_names, layers_in}
 use Rattle.world_laws.proofs.Order.{same_name-refl, same_name-exact, same_entity-exact}
+use Rattle.world_laws.proofs.Filters.{each_append}
 use Rattle.time_history.specs.declared.updates.Update.{Update}
 use Rattle.time_history.specs.Updates.{placed, update_cmp}
 use Rattle.time_history.specs.Telling.{event_told}
 use Rattle.graph_store.specs.Filed.{arrived, all_arrived, by_arrival}
 use Rattle.graph_store.proofs.Listed.{list_any-place}
-use Rattle.graph_store.proofs.FiledLaws.{HasOneMore, one_more-put, one_more-map, one_more-append, all_arrived-set, all_arrived-push, all_arrived-below, both_below, arrived_more}
+use Rattle.graph_store.proofs.FiledLaws.{HasOneMore, one_more-put, one_more-map, one_more-append, all_arrived-set, all_arrived-push, all_arrived-below, arrived_more}
 use Rattle.graph_store.specs.declared.edges.EdgeParts.{EdgeParts}
 use Rattle.graph_store.specs.EdgeParts.{parts_at}
 use Rattle.graph_store.specs.Keys.{type_in, with_keys, key_name}
@@ -35,10 +37,7 @@ use Rattle.graph_store.specs.Contents.{Contents, AreContents, name_at, edge_name
 use Rattle.graph_store.specs.WithEvent.{node_event}
 use Rattle.graph_store.proofs.KeyLaws.{type_in-with_keys, first_type, key_name-with_keys, length-with_keys}
 use Rattle.graph_store.proofs.StoreLaws.{TellEvents-other, TellEvents-keys, TellEvents-known, TellEvents-new, all_arrived-same}
-
-pub filter-append : {X : Type 0} (p : X → Bool) (xs ys : List X) → filter p (xs ++ ys) ≡ filter p xs ++ filter p ys
-filter-append p [] ys = refl
-filter-append p (x ∷ xs) ys = elim (p x) as (λ t. cond t (x ∷ filter p (xs ++ ys)) (filter p (xs ++ ys)) ≡ cond t (x ∷ filter p xs) (filter p xs) ++ filter p ys) [ true ↦ ap (λ zs. x ∷ zs) (filter-append p xs ys) | false ↦ filter-append p xs ys ]
+use Rattle.graph_store.proofs.Joined.{or-nothing, or-absorbed, or-swap}
 
 pub flat_map-last : {X A : Type 0} (f : X → List A) (xs : List X) (x : X) → flat_map f (xs ++ x ∷ []) ≡ flat_map f xs ++ f x
 flat_map-last f [] x = append-nil (f x)
@@ -48,27 +47,12 @@ pub prop_value-append : (key : List ℕ) (ps qs : List (List ℕ × Value)) → 
 prop_value-append key [] qs = refl
 prop_value-append key (p ∷ ps) qs = elim (same_name key p.0) as (λ t. option_map value_type (option_map (λ (q : List ℕ × Value). q.1) (cond t (Some p) (find (λ (q : List ℕ × Value). same_name key q.0) (ps ++ qs)))) ≡ option_or (option_map value_type (option_map (λ (q : List ℕ × Value). q.1) (cond t (Some p) (find (λ (q : List ℕ × Value). same_name key q.0) ps)))) (option_map value_type (prop_value key qs))) [ true ↦ refl | false ↦ prop_value-append key ps qs ]
 
-pub or-nothing : (b : Bool) → (b || false) ≡ b
-or-nothing true = refl
-or-nothing false = refl
-
-pub or-swap : (a b d : Bool) → ((a || b) || d) ≡ ((a || d) || b)
-or-swap true b d = refl
-or-swap false true true = refl
-or-swap false true false = refl
-or-swap false false d = sym (or-nothing d)
-
 -- a table with a name, which is new or known, has the names that it had and this one
 pub insert_key-has : (names : List (List ℕ)) (name n : List ℕ) → list_any (same_name n) (insert_key same_name names name) ≡ (list_any (same_name n) names || same_name n name)
 insert_key-has names name n = known (list_any (same_name name) names) refl
   where
-    absorbed : (a b : Bool) → (b ≡ true → a ≡ true) → a ≡ (a || b)
-    absorbed true b h = refl
-    absorbed false true h = h refl
-    absorbed false false h = refl
-
     known : (t : Bool) → list_any (same_name name) names ≡ t → list_any (same_name n) (cond t names (names ++ name ∷ [])) ≡ (list_any (same_name n) names || same_name n name)
-    known true e = absorbed (list_any (same_name n) names) (same_name n name) (λ s. ap (λ x. list_any (same_name x) names) (same_name-exact n name s) ∙ e)
+    known true e = or-absorbed (list_any (same_name n) names) (same_name n name) (λ s. ap (λ x. list_any (same_name x) names) (same_name-exact n name s) ∙ e)
     known false e = list_any-append (same_name n) names (name ∷ []) ∙ ap (λ t. list_any (same_name n) names || t) (or-nothing (same_name n name))
 
 -- numbers keep their names
@@ -173,7 +157,7 @@ module _ (c : Contents) (node_updates edge_updates : List (List Update)) (h : Ar
 
     before_below : AllByRecursion (λ (q : ℕ × Event). q.0 < length c.accepted) (all_arrived (key_name (with_keys c.node_keys props)) (node_entities c.nodes) node_updates ++ all_arrived (key_name c.edge_keys) (edge_entities c.nodes c.layers c.edges) edge_updates)
     before_below =
-        both_below (length c.accepted) (all_arrived (key_name (with_keys c.node_keys props)) (node_entities c.nodes) node_updates) (all_arrived (key_name c.edge_keys) (edge_entities c.nodes c.layers c.edges) edge_updates)
+        each_append (λ (q : ℕ × Event). q.0 < length c.accepted) (all_arrived (key_name (with_keys c.node_keys props)) (node_entities c.nodes) node_updates) (all_arrived (key_name c.edge_keys) (edge_entities c.nodes c.layers c.edges) edge_updates)
         (all_arrived-below (key_name (with_keys c.node_keys props)) (length (with_keys c.node_keys props)) (length c.accepted) (node_entities c.nodes) node_updates nodes_before.kept)
         (all_arrived-below (key_name c.edge_keys) (length c.edge_keys) (length c.accepted) (edge_entities c.nodes c.layers c.edges) edge_updates h.edges_told.kept)
 

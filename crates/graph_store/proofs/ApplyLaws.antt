@@ -2,7 +2,6 @@
 use Rattle.std.proofs.Common.{◌≡◌, ℕ, ◌+◌, ◌≤◌, List, [], ◌∷◌, ◌++◌, Bool, true, false, not, cond, Option, Some, None, length, map, refl, sym, ap, arith, subst}
 use Rattle.std.specs.Prelude.{is_some, MatchOption, IfNone}
 use Rattle.std.specs.List.{IsDistinct}
-use Rattle.std.proofs.lemmas.Bool.{ltb-false}
 use Rattle.indexmap.specs.IndexSet.{insert_key}
 use Rattle.graph_model.specs.declared.properties.Value.{Value}
 use Rattle.graph_model.specs.declared.properties.ValueType.{ValueType}
@@ -16,7 +15,7 @@ use Rattle.graph_model.specs.Refusal.{Deletion, KeyType, Limit}
 use Rattle.graph_model.specs.declared.events.Entity.TheVariants.{Edge}
 use Rattle.graph_model.specs.Entity.{subject, what_props, entity_of, props_of}
 use Rattle.graph_model.specs.World.{allows}
-use Rattle.graph_model.specs.Accepting.{Quantity, Events, Nodes, Layers, NodeKeys, EdgeKeys, Types, count_of, limit_of, is_over, all_quantities, mistyped, passed_limit, event_refusal}
+use Rattle.graph_model.specs.Accepting.{Quantity, Events, Nodes, Layers, NodeKeys, EdgeKeys, count_of, limit_of, mistyped, passed_limit, event_refusal}
 use Rattle.time_history.specs.declared.updates.Update.{Update}
 use Rattle.graph_store.specs.declared.judging.Totals.{Totals}
 use Rattle.graph_store.specs.Refusals.{total_of}
@@ -25,7 +24,7 @@ use Rattle.graph_store.specs.WithUpdate.{with_ends}
 use Rattle.graph_store.specs.Contents.{Contents, AreContents}
 use Rattle.graph_store.specs.WithEvent.{with_what, with_edge_event, with_event, HasRoom}
 use Rattle.graph_store.proofs.JudgeLaws.{totals-update, totals-edge}
-use Rattle.graph_store.proofs.LawfulLaws.{each_fails}
+use Rattle.world_laws.proofs.Limits.{within_passed}
 
 -- an event that is not refused is allowed, keeps the types of its keys and passes no limit
 pub record IsFine (model : Model) (accepted : List Event) (types : List (List ℕ × List ℕ)) (x : Event) : Type 0 where
@@ -43,23 +42,11 @@ not_refused model accepted types x e = go (allows model x) (mistyped accepted x)
     go true (Some p) l' a m l h = cc
     go false m' l' a m l h = cc
 
--- where no limit is passed, there are no more of anything than there may be
-pub within_limit : (xs : List Event) (types : List (List ℕ × List ℕ)) → passed_limit xs types ≡ None → (k : Quantity) → count_of k xs types ≤ limit_of k
-within_limit xs types e k = ltb-false (limit_of k) (count_of k xs types) (each k)
-  where
-    each : (k : Quantity) → is_over xs types k ≡ false
-    each Events = (each_fails (is_over xs types) all_quantities e).0
-    each Nodes = (each_fails (is_over xs types) all_quantities e).1.0
-    each Layers = (each_fails (is_over xs types) all_quantities e).1.1.0
-    each NodeKeys = (each_fails (is_over xs types) all_quantities e).1.1.1.0
-    each EdgeKeys = (each_fails (is_over xs types) all_quantities e).1.1.1.1.0
-    each Types = (each_fails (is_over xs types) all_quantities e).1.1.1.1.1.0
-
 module _ (c : Contents) (node_updates edge_updates : List (List Update)) (h : AreContents c node_updates edge_updates) (once_nodes : IsDistinct same_name c.nodes) (once_layers : IsDistinct same_name c.layers) (once_kinds : IsDistinct same_name c.kinds)
     (once_node_keys : IsDistinct same_name (map (λ (p : List ℕ × ValueType). p.0) c.node_keys)) (once_edge_keys : IsDistinct same_name (map (λ (p : List ℕ × ValueType). p.0) c.edge_keys))
     (x : Event) (within : passed_limit (c.accepted ++ x ∷ []) c.types ≡ None) where
   few : (t : Totals) → ((k : Quantity) → total_of t k ≡ count_of k (c.accepted ++ x ∷ []) c.types) → (k : Quantity) → total_of t k ≤ limit_of k
-  few t same k = subst (λ n. n ≤ limit_of k) (sym (same k)) (within_limit (c.accepted ++ x ∷ []) c.types within k)
+  few t same k = subst (λ n. n ≤ limit_of k) (sym (same k)) (within_passed (c.accepted ++ x ∷ []) c.types within k)
 
   of_edge : (edge : EdgeName) (props : List (List ℕ × Value)) → entity_of x ≡ Edge edge → props_of x ≡ props → HasRoom c (with_edge_event c x edge props)
   of_edge edge props own set =

@@ -1,5 +1,5 @@
 -- Edges by the names of their parts.
-use Rattle.std.proofs.Common.{◌≡◌, ℕ, suc, ◌+◌, ◌<◌, List, [], ◌∷◌, ◌++◌, Bool, true, false, not, cond, Option, Some, None, length, map, get_or, refl, sym, ap, ◌∙◌, arith}
+use Rattle.std.proofs.Common.{◌≡◌, ℕ, ◌+◌, ◌<◌, List, [], ◌∷◌, ◌++◌, Bool, true, false, not, cond, Option, Some, None, length, map, get_or, refl, sym, ap, ◌∙◌, arith}
 use Rattle.std.specs.Prelude.{position, nat_lt, ◌==◌, ◌&&◌}
 use Rattle.std.specs.List.{list_any, position_or_len, AllByRecursion, IsDistinct}
 use Rattle.std.proofs.lemmas.List.{length-map, get_or-map, length_push}
@@ -11,6 +11,9 @@ use Rattle.graph_model.specs.declared.events.Entity.TheVariants.{Node, Edge}
 use Rattle.graph_model.specs.Names.{same_name}
 use Rattle.graph_model.specs.Entity.{same_entity}
 use Rattle.world_laws.proofs.Order.{same_name-exact, same_name-refl, same_edge-exact, same_edge-refl}
+use Rattle.world_laws.proofs.Filters.{each_weaker}
+use Rattle.world_laws.proofs.Members.{both_true}
+pub use Rattle.world_laws.proofs.ListItems.{each_from}
 use Rattle.graph_store.specs.declared.edges.EdgeParts.{EdgeParts}
 use Rattle.graph_store.specs.EdgeParts.{same_parts, parts_at}
 use Rattle.graph_store.specs.Contents.{name_at, edge_name, edge_entities}
@@ -20,15 +23,7 @@ use Rattle.graph_store.specs.WithUpdate.{with_history, with_ends, with_end_histo
 use Rattle.graph_store.proofs.AcceptNode.{name_at-insert}
 use Rattle.graph_store.proofs.AcceptEdge.{length-insert_key}
 use Rattle.graph_store.proofs.Readers.{none_found, nowhere}
-
--- what holds at each place holds of each item
-pub each_from : {X : Type 0} (P : X → Type 0) (xs : List X) (d : X) → ((i : ℕ) → i < length xs → P (get_or xs i d)) → AllByRecursion P xs
-each_from P [] d h = tt
-each_from P (x ∷ xs) d h = (h 0 (omega arith), each_from P xs d (λ i lt. h (suc i) (omega arith)))
-
-pub each_implies : {X : Type 0} (P Q : X → Type 0) → ((x : X) → P x → Q x) → (xs : List X) → AllByRecursion P xs → AllByRecursion Q xs
-each_implies P Q f [] h = tt
-each_implies P Q f (x ∷ xs) h = (f x h.0, each_implies P Q f xs h.1)
+use Rattle.graph_store.proofs.Results.{insert_key-known}
 
 -- tests that agree on items and on what they are mapped to have one first place
 first_same : {X Y : Type 0} (f : X → Y) (p : X → Bool) (q : Y → Bool) (xs : List X) → AllByRecursion (λ x. q (f x) ≡ p x) xs → position_or_len q (map f xs) ≡ position_or_len p xs
@@ -42,10 +37,6 @@ position-same f p q xs h = let e = first_same f p q xs h in let l = length-map x
 none_passes : {X Y : Type 0} (f : X → Y) (q : Y → Bool) (xs : List X) → AllByRecursion (λ x. q (f x) ≡ false) xs → list_any q (map f xs) ≡ false
 none_passes f q [] h = refl
 none_passes f q (x ∷ xs) h = or_from (q (f x)) (list_any q (map f xs)) h.0 (none_passes f q xs h.1)
-
--- a name that is known leaves the names, and one that is new goes last
-pub known_same : (names : List (List ℕ)) (name : List ℕ) → list_any (same_name name) names ≡ true → names ≡ insert_key same_name names name
-known_same names name e = sym (ap (λ t. cond t names (names ++ name ∷ [])) e)
 
 last_or_len : {X : Type 0} (p : X → Bool) (xs : List X) (y : X) → list_any p xs ≡ false → p y ≡ true → position_or_len p (xs ++ y ∷ []) ≡ length xs
 last_or_len p [] y none e = λ i. cond (not (e i)) (1 + 0) 0
@@ -63,12 +54,6 @@ last_place p xs y none e =
     let len = length_push xs y in
     let found : position p (xs ++ y ∷ []) ≡ cond (nat_lt (length xs) (length xs + 1)) (Some (length xs)) None = λ i. cond (nat_lt (at i) (len i)) (Some (at i)) None in
     found ∙ ap (λ t. cond t (Some (length xs)) None) (lt-ltb (length xs) (length xs + 1) (omega arith))
-
-pub agree : (a b : Bool) → (a ≡ true → b ≡ true) → (b ≡ true → a ≡ true) → a ≡ b
-agree true true f g = refl
-agree true false f g = sym (f refl)
-agree false true f g = g refl
-agree false false f g = refl
 
 -- a name has one number
 pub number-once : (names : List (List ℕ)) (name : List ℕ) (i j : ℕ) → IsDistinct same_name names → position (same_name name) names ≡ Some i → j < length names → name ≡ name_at names j → i ≡ j
@@ -105,7 +90,7 @@ module _ (nodes layers : List (List ℕ)) (edge : EdgeName) (edges : List EdgePa
   missing other =
       nowhere (same_entity (Edge edge)) (edge_entities nodes layers edges)
       (none_passes (λ (p : EdgeParts). Edge (edge_name nodes layers p)) (same_entity (Edge edge)) edges
-      (each_implies (IsWithin nodes layers) (λ p. same_entity (Edge edge) (Edge (edge_name nodes layers p)) ≡ false)
+      (each_weaker (IsWithin nodes layers) (λ p. same_entity (Edge edge) (Edge (edge_name nodes layers p)) ≡ false)
       (λ p w. false_from_ne_true (same_entity (Edge edge) (Edge (edge_name nodes layers p))) (λ s. other p w (same_edge-exact edge (edge_name nodes layers p) s))) edges all_within))
 
   absent : (names : List (List ℕ)) (name : List ℕ) (i : ℕ) → position (same_name name) names ≡ None → i < length names → name ≡ name_at names i → ⊥
@@ -126,7 +111,7 @@ module _ (nodes layers : List (List ℕ)) (edge : EdgeName) (edges : List EdgePa
       → position (same_entity (Edge edge)) (edge_entities nodes layers edges) ≡ position (same_parts parts) edges
   place_of_parts once_nodes once_layers parts src dst layer =
       position-same (λ (p : EdgeParts). Edge (edge_name nodes layers p)) (same_parts parts) (same_entity (Edge edge)) edges
-      (each_implies (IsWithin nodes layers) (λ p. same_entity (Edge edge) (Edge (edge_name nodes layers p)) ≡ same_parts parts p) (λ p w. agree (same_entity (Edge edge) (Edge (edge_name nodes layers p))) (same_parts parts p)
+      (each_weaker (IsWithin nodes layers) (λ p. same_entity (Edge edge) (Edge (edge_name nodes layers p)) ≡ same_parts parts p) (λ p w. both_true (same_entity (Edge edge) (Edge (edge_name nodes layers p))) (same_parts parts p)
       (λ s. let same = same_edge-exact edge (edge_name nodes layers p) s in
       same_numbers parts p
       (number-once nodes edge.src parts.src p.src once_nodes src w.0 (ap (λ (x : EdgeName). x.src) same))
@@ -158,16 +143,16 @@ module _ (nodes layers : List (List ℕ)) (edge : EdgeName) (edges : List EdgePa
     dst_known = let k = known_edge i e in has_name nodes edge.dst (parts_at edges i).dst (within i k.0).1 (ap (λ (x : EdgeName). x.dst) k.1)
 
     pub known_ends : nodes ≡ with_ends nodes edge
-    known_ends = known_same nodes edge.dst dst_known ∙ ap (λ ns. insert_key same_name ns edge.dst) (known_same nodes edge.src src_known)
+    known_ends = sym (ap (λ ns. insert_key same_name ns edge.dst) (insert_key-known same_name nodes edge.src src_known) ∙ insert_key-known same_name nodes edge.dst dst_known)
 
     pub known_layer : layers ≡ insert_key same_name layers edge.layer
-    known_layer = let k = known_edge i e in known_same layers edge.layer (has_name layers edge.layer (parts_at edges i).layer (within i k.0).2 (ap (λ (x : EdgeName). x.layer) k.1))
+    known_layer = let k = known_edge i e in sym (insert_key-known same_name layers edge.layer (has_name layers edge.layer (parts_at edges i).layer (within i k.0).2 (ap (λ (x : EdgeName). x.layer) k.1)))
 
     pub known_histories : (hs : List (List Update)) → hs ≡ with_end_histories nodes edge hs
     known_histories hs =
         let src : hs ≡ with_history nodes edge.src hs = sym (ap (λ t. cond t hs (hs ++ [] ∷ [])) src_known) in
         let dst : hs ≡ with_history nodes edge.dst hs = sym (ap (λ t. cond t hs (hs ++ [] ∷ [])) dst_known) in
-        let same = known_same nodes edge.src src_known in
+        let same = sym (insert_key-known same_name nodes edge.src src_known) in
         dst ∙ (λ k. with_history (same k) edge.dst (src k))
 
   -- the parts of a new edge are those of none that is there

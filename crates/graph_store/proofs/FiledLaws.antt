@@ -16,6 +16,7 @@ use Rattle.graph_model.specs.Rising.{in_order, put_in_order, put_after}
 use Rattle.graph_model.specs.Entity.{entity_of, entity_cmp, subject}
 use Rattle.graph_model.specs.World.{event_cmp}
 use Rattle.world_laws.proofs.InOrder.{each_in_order}
+use Rattle.world_laws.proofs.Filters.{each_append}
 use Rattle.time_history.specs.declared.updates.Kind.{Kind}
 use Rattle.time_history.specs.declared.updates.Kind.TheVariants.{Node as OfNode, Add, Delete}
 use Rattle.time_history.specs.declared.updates.Update.{Update}
@@ -144,10 +145,6 @@ told-placed e names u (v ∷ us) =
 pub arrived_more : (accepted : List Event) (x : Event) (xs ys : List (ℕ × Event)) → HasOneMore (length accepted, x) xs ys → AllByRecursion (λ (q : ℕ × Event). q.0 < length accepted) xs → by_arrival xs ≡ accepted → by_arrival ys ≡ accepted ++ x ∷ []
 arrived_more accepted x xs ys h below is = by_arrival-one_more (length accepted) x xs ys h below ∙ ap (λ zs. zs ++ x ∷ []) is
 
-each_append : {X : Type 0} (P : X → Type 0) (xs ys : List X) → AllByRecursion P xs → AllByRecursion P ys → AllByRecursion P (xs ++ ys)
-each_append P [] ys a b = b
-each_append P (x ∷ xs) ys a b = (a.0, each_append P xs ys a.1 b)
-
 arrived_below : (e : Entity) (names : ℕ → List ℕ) (n before : ℕ) (us : List Update) → AllByRecursion (IsStoredUpdate e n before) us → AllByRecursion (λ (q : ℕ × Event). q.0 < before) (arrived e names us)
 arrived_below e names n before [] h = tt
 arrived_below e names n before (u ∷ us) h = (h.0.arrival, arrived_below e names n before us h.1)
@@ -161,6 +158,3 @@ all_arrived-below names n before (e ∷ es) (us ∷ hs) kept =
     each_append (λ (q : ℕ × Event). q.0 < before) (arrived e names us) (all_arrived names es hs)
     (arrived_below e names n before us (kept 0 (omega arith)))
     (all_arrived-below names n before es hs (λ i lt. kept (suc i) (omega arith)))
-
-pub both_below : (before : ℕ) (xs ys : List (ℕ × Event)) → AllByRecursion (λ (q : ℕ × Event). q.0 < before) xs → AllByRecursion (λ (q : ℕ × Event). q.0 < before) ys → AllByRecursion (λ (q : ℕ × Event). q.0 < before) (xs ++ ys)
-both_below before xs ys a b = each_append (λ (q : ℕ × Event). q.0 < before) xs ys a b

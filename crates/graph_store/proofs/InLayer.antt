@@ -9,7 +9,7 @@ use Rattle.graph_store.specs.Places.{places_from}
 use Rattle.graph_store.specs.Ends.{same_ends}
 use Rattle.graph_store.specs.EdgeParts.{same_parts, ends_of, parts_at, is_in}
 use Rattle.graph_store.specs.EdgeIndex.{edges_between}
-use Rattle.graph_store.proofs.EdgeNames.{agree}
+use Rattle.world_laws.proofs.Members.{both_true}
 use Rattle.graph_store.proofs.Readers.{nowhere}
 
 -- the places of items are places of the list
@@ -31,7 +31,7 @@ module _ (whole : List EdgeParts) (layer : ℕ) (test : EdgeParts → Bool) wher
 
   shifted : (i r n m : ℕ) → m ≡ suc n → cond (nat_lt r n) (Some (suc i + r)) None ≡ cond (nat_lt (1 + r) m) (Some (i + (1 + r))) None
   shifted i r n m e =
-      let test_same : nat_lt r n ≡ nat_lt (1 + r) m = agree (nat_lt r n) (nat_lt (1 + r) m)
+      let test_same : nat_lt r n ≡ nat_lt (1 + r) m = both_true (nat_lt r n) (nat_lt (1 + r) m)
       (λ a. let b = ltb-true r n a in lt-ltb (1 + r) m (omega arith))
       (λ a. let b = ltb-true (1 + r) m a in lt-ltb r n (omega arith)) in
       let number : suc i + r ≡ i + (1 + r) = omega arith in

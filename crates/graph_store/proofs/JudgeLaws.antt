@@ -28,6 +28,7 @@ use Rattle.graph_model.specs.Entity.{entity_of, is_node, subject, props_of, name
 use Rattle.graph_model.specs.Refusal.{Deletion, KeyType, Retype, Limit}
 use Rattle.graph_model.specs.World.{names_node, type_of, allows}
 use Rattle.graph_model.specs.Accepting.{Quantity, Events, Nodes, Layers, NodeKeys, EdgeKeys, Types, count_of, distinct, kept_type, node_events, edge_events, properties_of, key_names, node_names, layer_names, type_names, is_of_other_type, is_over, alike, mistyped, all_quantities, limit_of, passed_limit, event_refusal, is_other_type, type_refusal}
+use Rattle.graph_model.specs.Limits.{most_events, most_nodes, most_layers, most_keys, most_types}
 use Rattle.world_laws.proofs.Order.{same_name-exact, same_name-refl, name_exact}
 use Rattle.world_laws.proofs.Filters.{each_weaker}
 use Rattle.world_laws.proofs.Members.{any_flat_map}
@@ -42,8 +43,9 @@ use Rattle.graph_store.specs.Contents.{Contents, AreContents}
 use Rattle.graph_store.proofs.Listed.{list_any-place}
 use Rattle.graph_store.proofs.KeyLaws.{type_in-with_keys, first_type}
 use Rattle.graph_store.specs.WithEvent.{node_event}
-use Rattle.graph_store.proofs.AcceptNode.{or-nothing, insert_key-has, known_nodes-node, known_layers-node, node_types-node, edge_types-node}
+use Rattle.graph_store.proofs.AcceptNode.{insert_key-has, known_nodes-node, known_layers-node, node_types-node, edge_types-node}
 use Rattle.graph_store.proofs.AcceptEdge.{known_nodes-edge, known_layers-edge, node_types-edge, edge_types-edge}
+use Rattle.graph_store.proofs.Joined.{or-nothing}
 
 -- names that rise strictly are distinct
 pub rises_distinct : (xs : List (List ℕ)) → Rises name_cmp xs → IsDistinct same_name xs
@@ -287,14 +289,14 @@ module _ (c : Contents) (node kind : List ℕ) where
 below_limit : (limit total : ℕ) → total ≤ limit → nat_lt limit total ≡ false
 below_limit limit total le = false_from_ne_true (nat_lt limit total) (λ e. let lt = ltb-true limit total e in absurd (omega arith))
 
-pub none_above : (t : Totals) → t.events ≤ 4194304 → t.nodes ≤ 1048576 → t.layers ≤ 64 → t.node_keys ≤ 256 → t.edge_keys ≤ 256 → t.types ≤ 4096 → find (is_above t) all_quantities ≡ None
+pub none_above : (t : Totals) → t.events ≤ most_events → t.nodes ≤ most_nodes → t.layers ≤ most_layers → t.node_keys ≤ most_keys → t.edge_keys ≤ most_keys → t.types ≤ most_types → find (is_above t) all_quantities ≡ None
 none_above t events nodes layers node_keys edge_keys types = λ i.
-    cond (below_limit 4194304 t.events events i) (Some Events)
-    (cond (below_limit 1048576 t.nodes nodes i) (Some Nodes)
-    (cond (below_limit 64 t.layers layers i) (Some Layers)
-    (cond (below_limit 256 t.node_keys node_keys i) (Some NodeKeys)
-    (cond (below_limit 256 t.edge_keys edge_keys i) (Some EdgeKeys)
-    (cond (below_limit 4096 t.types types i) (Some Types) None)))))
+    cond (below_limit most_events t.events events i) (Some Events)
+    (cond (below_limit most_nodes t.nodes nodes i) (Some Nodes)
+    (cond (below_limit most_layers t.layers layers i) (Some Layers)
+    (cond (below_limit most_keys t.node_keys node_keys i) (Some NodeKeys)
+    (cond (below_limit most_keys t.edge_keys edge_keys i) (Some EdgeKeys)
+    (cond (below_limit most_types t.types types i) (Some Types) None)))))
 
 -- an event's properties, for events alike
 pub alike-node : (accepted : List Event) (x : Event) (name : List ℕ) (props : List (List ℕ × Value)) → x.what ≡ NodeUpdate name props → alike x accepted ≡ node_events accepted

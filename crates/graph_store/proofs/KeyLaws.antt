@@ -4,9 +4,9 @@ use Rattle.std.specs.Prelude.{is_some, slice_get, option_map, OnSome, IfSome, If
 use Rattle.std.specs.Option.{option_or}
 use Rattle.std.specs.List.{find, AllByRecursion}
 use Rattle.std.specs.Ordering.{is_eq, ordering_reverse}
-use Rattle.std.proofs.lemmas.Bool.{or_from, false_from_ne_true}
+use Rattle.std.proofs.lemmas.Bool.{or_from}
 use Rattle.std.specs.declared.cmp.Ordering.TheVariants.{Less}
-use Rattle.std.proofs.lemmas.List.{length_push, length-append, length-map, map-append, get_or-map, take-append-drop}
+use Rattle.std.proofs.lemmas.List.{length_push, length-append, length-map, map-append, get_or-map, take-append-drop, take-append-le, take_all}
 use Rattle.std.proofs.Math.ListN.{get_or-append}
 use Rattle.std.proofs.lemmas.List.Sums.{fold-append}
 use Rattle.std.proofs.lemmas.Option.{get_or_from_slice_get}
@@ -23,7 +23,9 @@ use Rattle.time_history.specs.KeyValues.{KeyNumbersRise as NumbersRise}
 use Rattle.time_history.specs.Telling.{with_key_names}
 use Rattle.graph_store.specs.Numbered.{put_number}
 use Rattle.graph_store.proofs.NumberLaws.{with_key_names-put, put_prop-last, each_put, rise_put}
-use Rattle.world_laws.proofs.Order.{same_name-exact}
+use Rattle.graph_store.proofs.Joined.{option_or-none}
+use Rattle.world_laws.proofs.Order.{same_name-exact, same_name-other}
+use Rattle.world_laws.proofs.ListItems.{each_at}
 use Rattle.graph_store.specs.Keys.{type_in, with_key, with_keys, prop_at, clashes, IsClash, key_name}
 
 -- the key and the value at a place
@@ -74,10 +76,6 @@ or_some : (o : Option ValueType) (p : Option ValueType) → is_some o ≡ true �
 or_some None p h = cc
 or_some (Some x) p h = refl
 
-or_none : (o : Option ValueType) → option_or o None ≡ o
-or_none None = refl
-or_none (Some x) = refl
-
 or_assoc : (o p q : Option ValueType) → option_or (option_or o p) q ≡ option_or o (option_or p q)
 or_assoc None p q = refl
 or_assoc (Some x) p q = refl
@@ -87,7 +85,7 @@ type_in-with_key keys p key = known (is_some (type_in keys p.0)) refl (same_name
   where
     known : (t : Bool) → is_some (type_in keys p.0) ≡ t → (s : Bool) → same_name key p.0 ≡ s → type_in (cond t keys (keys ++ (p.0, value_type p.1) ∷ [])) key ≡ option_or (type_in keys key) (cond s (Some (value_type p.1)) None)
     known false e s d = type_in-push keys (p.0, value_type p.1) key ∙ ap (λ b. option_or (type_in keys key) (cond b (Some (value_type p.1)) None)) d
-    known true e false d = sym (or_none (type_in keys key))
+    known true e false d = sym (option_or-none (type_in keys key))
     known true e true d = sym (or_some (type_in keys key) (Some (value_type p.1)) (ap (λ k. is_some (type_in keys k)) (same_name-exact key p.0 d) ∙ e))
 
 -- the type of the first value of a key
@@ -95,7 +93,7 @@ abbrev pub first_type : List ℕ → List (List ℕ × Value) → Option ValueTy
 first_type key props = option_map value_type (prop_value key props)
 
 pub type_in-with_keys : (keys : List (List ℕ × ValueType)) (props : List (List ℕ × Value)) (key : List ℕ) → type_in (with_keys keys props) key ≡ option_or (type_in keys key) (first_type key props)
-type_in-with_keys keys [] key = sym (or_none (type_in keys key))
+type_in-with_keys keys [] key = sym (option_or-none (type_in keys key))
 type_in-with_keys keys (p ∷ props) key =
     type_in-with_keys (with_key keys p) props key
     ∙ (ap (λ o. option_or o (first_type key props)) (type_in-with_key keys p key)
@@ -115,20 +113,8 @@ grows keys (p ∷ props) = step (is_some (type_in keys p.0)) (grows keys props) 
     step true old new = old
     step false old new = ((p.0, value_type p.1) ∷ new.0, new.1 ∙ append_assoc keys ((p.0, value_type p.1) ∷ []) new.0)
 
-take-own : {X : Type 0} (xs ys : List X) → take (length xs) (xs ++ ys) ≡ xs
-take-own [] ys = refl
-take-own (x ∷ xs) ys = ap (λ zs. x ∷ zs) (take-own xs ys)
-
 pub with_keys-prefix : (keys : List (List ℕ × ValueType)) (props : List (List ℕ × Value)) → take (length keys) (with_keys keys props) ≡ keys
-with_keys-prefix keys props = let g = grows keys props in ap (take (length keys)) g.1 ∙ take-own keys g.0
-
-pub each_at : {X : Type 0} (P : X → Type 0) (xs : List X) (i : ℕ) (d : X) → AllByRecursion P xs → i < length xs → P (get_or xs i d)
-each_at P [] i d h lt = absurd (omega arith)
-each_at P (x ∷ xs) zero d h lt = h.0
-each_at P (x ∷ xs) (suc i) d h lt = each_at P xs i d h.1 (omega arith)
-
-same_name-other : (a b : List ℕ) → (a ≡ b → ⊥) → same_name a b ≡ false
-same_name-other a b h = false_from_ne_true (same_name a b) (λ s. h (same_name-exact a b s))
+with_keys-prefix keys props = let g = grows keys props in ap (take (length keys)) g.1 ∙ (take-append-le (length keys) keys g.0 (omega arith) ∙ take_all (length keys) keys (omega arith))
 
 -- properties that rise have no key twice
 pub absent_before : (props : List (List ℕ × Value)) (i : ℕ) → KeysRise props → i < length props → prop_value (prop_at props i).0 (take i props) ≡ None
@@ -147,7 +133,7 @@ pub still_new : (keys : List (List ℕ × ValueType)) (props : List (List ℕ ×
 still_new keys props i rise lt =
     type_in-with_keys keys (take i props) (prop_at props i).0
     ∙ (ap (λ v. option_or (type_in keys (prop_at props i).0) (option_map value_type v)) (absent_before props i rise lt)
-    ∙ or_none (type_in keys (prop_at props i).0))
+    ∙ option_or-none (type_in keys (prop_at props i).0))
 
 pub counted : (keys : List (List ℕ × ValueType)) (props : List (List ℕ × Value)) (i n : ℕ) (key : List ℕ) (has : Bool) → KeysRise props → i < length props
     → slice_get (map (λ (p : List ℕ × Value). p.0) props) i ≡ Some key → has ≡ is_some (type_in keys key)

@@ -23,18 +23,18 @@ use Rattle.graph_model.specs.Accepting.{node_events, edge_events, alike, propert
 use Rattle.world_laws.proofs.Order.{same_name-exact, same_name-refl}
 use Rattle.world_laws.proofs.Filters.{each_weaker, each_append, each_two}
 use Rattle.world_laws.proofs.Lawful.{all_pass}
+use Rattle.world_laws.proofs.ListParts.{none_found}
 use Rattle.graph_store.specs.Lawful.{KeepsTypes, AreJudged}
 use Rattle.graph_store.specs.WithEvent.{node_event}
 use Rattle.graph_store.proofs.KeyLaws.{first_type}
-use Rattle.graph_store.proofs.AcceptNode.{filter-append, flat_map-last, prop_value-append}
+use Rattle.graph_store.proofs.AcceptNode.{flat_map-last, prop_value-append}
+use Rattle.graph_store.proofs.Joined.{option_or-none}
+use Rattle.std.proofs.lemmas.List.Elements.{filter-append}
+use Rattle.std.proofs.lemmas.Bool.{not-false}
 
 -- what events keep for a key, with an event more
 kept-push : (xs : List Event) (x : Event) (key : List ℕ) → kept_type (xs ++ x ∷ []) key ≡ option_or (kept_type xs key) (first_type key (props_of x))
 kept-push xs x key = ap (λ ps. option_map value_type (prop_value key ps)) (flat_map-last props_of xs x) ∙ prop_value-append key (properties_of xs) (props_of x)
-
-option_or-none : (o : Option ValueType) → option_or o None ≡ o
-option_or-none None = refl
-option_or-none (Some t) = refl
 
 kept-filter : (test : Event → Bool) (xs : List Event) (x : Event) (key : List ℕ) → kept_type (filter test (xs ++ x ∷ [])) key ≡ option_or (kept_type (filter test xs) key) (cond (test x) (first_type key (props_of x)) None)
 kept-filter test xs x key = ap (λ ys. kept_type ys key) (filter-append test xs (x ∷ [])) ∙ go (test x)
@@ -60,15 +60,6 @@ kept-own xs x key = go (is_node (entity_of x)) refl
     go true e = kept-filter (λ y. is_node (entity_of y)) xs x key ∙ ap (λ b. option_or (kept_type (node_events xs) key) (cond b (first_type key (props_of x)) None)) e
     go false e = kept-filter (λ y. not (is_node (entity_of y))) xs x key ∙ ap (λ b. option_or (kept_type (edge_events xs) key) (cond (not b) (first_type key (props_of x)) None)) e
 
--- where no item passes, each fails
-pub each_fails : {X : Type 0} (p : X → Bool) (xs : List X) → find p xs ≡ None → AllByRecursion (λ x. p x ≡ false) xs
-each_fails p [] e = tt
-each_fails p (x ∷ xs) e = go (p x) refl e (λ k. each_fails p xs k)
-  where
-    go : (t : Bool) → p x ≡ t → cond t (Some x) (find p xs) ≡ None → (find p xs ≡ None → AllByRecursion (λ y. p y ≡ false) xs) → AllByRecursion (λ y. p y ≡ false) (x ∷ xs)
-    go true h k rest = cc
-    go false h k rest = (h, rest k)
-
 -- among properties that rise by key, each is the first of its key
 each_first : (ps : List (List ℕ × Value)) → KeysRise ps → AllByRecursion (λ (p : List ℕ × Value). first_type p.0 ps ≡ Some (value_type p.1)) ps
 each_first [] h = tt
@@ -93,18 +84,14 @@ same_value_type-exact OfText OfFlag e = cc
 -- a value that is not of another type has the type that its key keeps with it
 kept_with : (o : Option ValueType) (v : ValueType) → option_map_or (λ kept. not (same_value_type kept v)) o false ≡ false → option_or o (Some v) ≡ Some v
 kept_with None v e = refl
-kept_with (Some t) v e = ap Some (same_value_type-exact t v (turn (same_value_type t v) e))
-  where
-    turn : (b : Bool) → not b ≡ false → b ≡ true
-    turn true h = refl
-    turn false h = cc
+kept_with (Some t) v e = ap Some (same_value_type-exact t v (not-false (same_value_type t v) e))
 
 -- an event of which no value has another type keeps its types
 KeepsTypes-own : (xs : List Event) (x : Event) → KeysRise (props_of x) → mistyped xs x ≡ None → KeepsTypes (xs ++ x ∷ []) x
 KeepsTypes-own xs x rise e =
     each_two (λ (p : List ℕ × Value). is_of_other_type (alike x xs) p ≡ false) (λ (p : List ℕ × Value). first_type p.0 (props_of x) ≡ Some (value_type p.1)) (λ (p : List ℕ × Value). kept_type (alike x (xs ++ x ∷ [])) p.0 ≡ Some (value_type p.1))
     (λ p other first. kept-own xs x p.0 ∙ (ap (option_or (kept_type (alike x xs) p.0)) first ∙ kept_with (kept_type (alike x xs) p.0) (value_type p.1) other))
-    (props_of x) (each_fails (is_of_other_type (alike x xs)) (props_of x) e) (each_first (props_of x) rise)
+    (props_of x) (none_found (is_of_other_type (alike x xs)) (props_of x) e) (each_first (props_of x) rise)
 
 KeepsTypes-stays : (xs : List Event) (x y : Event) → KeepsTypes xs y → KeepsTypes (xs ++ x ∷ []) y
 KeepsTypes-stays xs x y h =

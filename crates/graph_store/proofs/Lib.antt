@@ -1,3 +1,4 @@
+mod Joined
 mod PairLaws
 mod HeldLaws
 mod Results

@@ -21,6 +21,7 @@ use Rattle.link_chain.specs.NumberLists.{numbers_at, with_last}
 use Rattle.link_chain.proofs.NumberLaws.{numbers_at-add_list, numbers_at-with_last, numbers_at-with_last_other, length-with_last}
 use Rattle.graph_store.proofs.PairLaws.{places-push}
 use Rattle.graph_store.proofs.Listed.{one_place, places_from-none}
+use Rattle.graph_store.proofs.Joined.{or-nothing, or-absorbed}
 
 pub same_ends-own : (a : Ends) → same_ends a a ≡ true
 same_ends-own a = and_from (nat_eq a.src a.src) (nat_eq a.dst a.dst) (eq-eqb a.src a.src refl) (eq-eqb a.dst a.dst refl)
@@ -41,11 +42,6 @@ record AreReady (edges : List EdgeParts) (pairs : List Ends) (ends : Ends) (list
   pub own : length lists ≡ length pairs
   pub known : (x : Ends) → list_any (same_ends x) pairs ≡ (list_any (λ (e : EdgeParts). same_ends x (ends_of e)) edges || same_ends x ends)
   pub between : (pair : ℕ) → pair < length pairs → numbers_at lists pair ≡ edges_between edges (ends_at pairs pair)
-
-or-absorbed : (a b : Bool) → (b ≡ true → a ≡ true) → a ≡ (a || b)
-or-absorbed true b h = refl
-or-absorbed false true h = h refl
-or-absorbed false false h = refl
 
 ready : (edges : List EdgeParts) (paired : PairIndex) (lists : List (List ℕ)) (linked : ℕ) (ends : Ends) → IsEdgeIndex edges paired lists linked → (t : Bool) → list_any (same_ends ends) paired.pairs ≡ t
     → AreReady edges (cond t paired.pairs (paired.pairs ++ ends ∷ [])) ends (cond t lists (lists ++ [] ∷ []))
@@ -72,10 +68,6 @@ ready edges paired lists linked ends h false e =
           ∙ places_from-none (λ (e : EdgeParts). same_ends ends (ends_of e)) 0 edges (sym (h.known ends) ∙ e))))
           (cases_lt pair (length paired.pairs));
     }
-  where
-    or-nothing : (b : Bool) → (b || false) ≡ b
-    or-nothing true = refl
-    or-nothing false = refl
 
 pub IsEdgeIndex-push : (edges : List EdgeParts) (paired paired' : PairIndex) (lists lists1 : List (List ℕ)) (linked linked1 : ℕ) (parts : EdgeParts) (p : ℕ)
     → IsEdgeIndex edges paired lists linked
@@ -113,10 +105,6 @@ IsEdgeIndex-push edges paired paired' lists lists1 linked linked1 parts p h one_
           (cases_lt e (length edges));
     }
   where
-    or-nothing : (b : Bool) → (b || false) ≡ b
-    or-nothing true = refl
-    or-nothing false = refl
-
     no_ends : Ends
     no_ends = record { src = 0; dst = 0 }
 

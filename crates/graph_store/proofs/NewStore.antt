@@ -1,5 +1,6 @@
 -- A store of no event and no type.
 use Rattle.std.proofs.Common.{◌≡◌, ℕ, ◌≤◌, List, [], ◌++◌, length, refl, sym, ap, ◌∙◌, arith, subst}
+use Rattle.graph_model.specs.Limits.{most_events, most_nodes, most_layers, most_types, most_keys}
 use Rattle.graph_model.specs.declared.events.Model.{Model}
 use Rattle.graph_model.specs.Interval.{Interval}
 use Rattle.graph_model.specs.declared.properties.ValueType.{ValueType}
@@ -41,7 +42,7 @@ AreContents-nothing model bounds pairs = record {
   within = λ e lt. absurd (omega arith);
 }
 
-module _ (s : Inside) (events : s.events ≡ 0) (nodes : s.nodes.names ≡ []) (node_limit : s.nodes.limit ≡ 1048576) (layers : s.layers.names ≡ []) (layer_limit : s.layers.limit ≡ 64) (kinds : s.kinds.names ≡ []) (kind_limit : s.kinds.limit ≡ 4096) (types : s.types.numbers ≡ [])
+module _ (s : Inside) (events : s.events ≡ 0) (nodes : s.nodes.names ≡ []) (node_limit : s.nodes.limit ≡ most_nodes) (layers : s.layers.names ≡ []) (layer_limit : s.layers.limit ≡ most_layers) (kinds : s.kinds.names ≡ []) (kind_limit : s.kinds.limit ≡ most_types) (types : s.types.numbers ≡ [])
     (node_keys : s.node_keys ≡ []) (edge_keys : s.edge_keys ≡ []) (links : s.links.nodes ≡ 0) (edges : s.links.edges ≡ []) (node_histories : s.node_histories.items ≡ []) (edge_histories : s.edge_histories.items ≡ []) where
   contents-nothing : contents s ≡ nothing s.model s.bounds s.links.pairs
   contents-nothing = λ k. record {
@@ -67,13 +68,13 @@ module _ (s : Inside) (events : s.events ≡ 0) (nodes : s.nodes.names ≡ []) (
     judged = subst (AreJudged s.model s.bounds) (sym (ap (λ (v : Contents). v.accepted) contents-nothing)) (record { inside = tt; allowed = tt; rising = tt; typed = tt });
     linked = links ∙ sym (ap length nodes);
     events = ap (λ (v : Contents). length v.accepted) contents-nothing ∙ sym events;
-    few_events = subst (λ n. n ≤ 4194304) (sym events) (omega arith);
+    few_events = subst (λ n. n ≤ most_events) (sym events) (omega arith);
     node_limit = node_limit;
     layer_limit = layer_limit;
     kind_limit = kind_limit;
     few_edges = subst (λ (es : List EdgeParts). length es ≤ s.events) (sym edges) (omega arith);
-    few_layers = subst (λ (ns : List (List ℕ)). length ns ≤ 64) (sym layers) (omega arith);
-    few_node_keys = subst (λ (ks : List (List ℕ × ValueType)). length ks ≤ 256) (sym node_keys) (omega arith);
-    few_edge_keys = subst (λ (ks : List (List ℕ × ValueType)). length ks ≤ 256) (sym edge_keys) (omega arith);
+    few_layers = subst (λ (ns : List (List ℕ)). length ns ≤ most_layers) (sym layers) (omega arith);
+    few_node_keys = subst (λ (ks : List (List ℕ × ValueType)). length ks ≤ most_keys) (sym node_keys) (omega arith);
+    few_edge_keys = subst (λ (ks : List (List ℕ × ValueType)). length ks ≤ most_keys) (sym edge_keys) (omega arith);
     typed_within = subst (IsTypeIndex s.nodes.names s.kinds.names) (sym types) tt;
   }

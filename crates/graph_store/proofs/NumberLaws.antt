@@ -5,7 +5,7 @@ use Rattle.std.specs.List.{insert, position_or_len, AllByRecursion}
 use Rattle.std.specs.Ordering.{is_lt, is_eq, ordering_reverse}
 use Rattle.std.specs.declared.cmp.Ordering.{Ordering}
 use Rattle.std.specs.declared.cmp.Ordering.TheVariants.{Less, Equal, Greater}
-use Rattle.std.proofs.lemmas.Bool.{or_parts, true≢false, ltb-true, ltb-false}
+use Rattle.std.proofs.lemmas.Bool.{or_parts, true≢false, ltb-true, ltb-false, not-true}
 use Rattle.graph_model.proofs.PropItems.{is_lt-Less}
 use Rattle.graph_model.specs.declared.properties.Value.{Value}
 use Rattle.graph_model.specs.Names.{name_cmp, same_name, name_total}
@@ -68,12 +68,8 @@ put_prop-comm x y apart [] = let t = turned x.0 y.0 apart in simp t (swap_first 
 put_prop-comm x y apart (z ∷ zs) =
     swap_cases x y apart z zs (put_prop-comm x y apart zs)
     (λ a b. between x.0 y.0 z.0 a b)
-    (λ b a. let l = between y.0 x.0 z.0 b a in let t = turned x.0 y.0 apart in flip (is_lt (name_cmp x.0 y.0)) (sym t ∙ l))
+    (λ b a. let l = between y.0 x.0 z.0 b a in let t = turned x.0 y.0 apart in not-true (is_lt (name_cmp x.0 y.0)) (sym t ∙ l))
     (is_lt (name_cmp x.0 z.0)) (is_lt (name_cmp y.0 z.0)) refl refl
-  where
-    flip : (t : Bool) → not t ≡ true → t ≡ false
-    flip true h = cc
-    flip false h = refl
 
 -- a property whose key is greater than all there goes last
 pub put_prop-last : (p : List ℕ × Value) (qs : List (List ℕ × Value)) → AllByRecursion (λ (q : List ℕ × Value). name_cmp q.0 p.0 ≡ Less) qs → put_prop p qs ≡ qs ++ p ∷ []

@@ -1,5 +1,5 @@
 -- Results that are sure to be well, and places that are found.
-use Rattle.std.proofs.Common.{◌≡◌, ℕ, List, [], ◌∷◌, Bool, false, ◌++◌, refl}
+use Rattle.std.proofs.Common.{◌≡◌, ℕ, List, [], ◌∷◌, Bool, true, false, ◌++◌, refl}
 use Rattle.std.specs.Prelude.{Result, Ok, Err, IsOk, OnOk, IsErrOf, IfOk}
 use Rattle.std.specs.List.{list_any}
 use Rattle.indexmap.specs.IndexSet.{insert_key}
@@ -15,9 +15,9 @@ sure (Err e) ok h = cc
 pub insert_key-new : {X : Type 0} (eq : X → X → Bool) (xs : List X) (x : X) → list_any (eq x) xs ≡ false → insert_key eq xs x ≡ xs ++ x ∷ []
 insert_key-new eq xs x e = rw e refl
 
-pub on_ok : {A E P Q : Type 0} (r : Result A E) → (P → Q) → OnOk r P → OnOk r Q
-on_ok (Ok x) f h = f h
-on_ok (Err e) f h = tt
+-- and one that is there leaves the keys
+pub insert_key-known : {X : Type 0} (eq : X → X → Bool) (xs : List X) (x : X) → list_any (eq x) xs ≡ true → insert_key eq xs x ≡ xs
+insert_key-known eq xs x e = rw e refl
 
 -- what holds of any result
 pub on_any : {A E P : Type 0} (r : Result A E) → P → OnOk r P

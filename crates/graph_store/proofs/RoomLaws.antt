@@ -4,6 +4,7 @@ use Rattle.std.specs.Prelude.{is_some}
 use Rattle.std.specs.List.{IsDistinct}
 use Rattle.std.proofs.lemmas.List.{length_push}
 use Rattle.indexmap.specs.IndexSet.{insert_key}
+use Rattle.graph_model.specs.Limits.{most_events, most_nodes, most_layers, most_types, most_keys}
 use Rattle.graph_model.specs.declared.properties.Value.{Value}
 use Rattle.graph_model.specs.declared.properties.ValueType.{ValueType}
 use Rattle.graph_model.specs.declared.events.EdgeName.{EdgeName}
@@ -39,8 +40,8 @@ length-with_keys-le keys (p ∷ ps) =
 
 module _ (c : Contents) (node_updates edge_updates : List (List Update)) (h : AreContents c node_updates edge_updates) (once_nodes : IsDistinct same_name c.nodes) (once_layers : IsDistinct same_name c.layers) (once_kinds : IsDistinct same_name c.kinds)
     (once_node_keys : IsDistinct same_name (map (λ (p : List ℕ × ValueType). p.0) c.node_keys)) (once_edge_keys : IsDistinct same_name (map (λ (p : List ℕ × ValueType). p.0) c.edge_keys)) (x : Event)
-    (events : length c.accepted < 4194304) (nodes : length c.nodes + 2 ≤ 1048576) (layers : length c.layers < 64) (node_keys : length c.node_keys + length (props_of x) ≤ 256) (edge_keys : length c.edge_keys + length (props_of x) ≤ 256)
-    (types : length c.kinds ≤ 4096) where
+    (events : length c.accepted < most_events) (nodes : length c.nodes + 2 ≤ most_nodes) (layers : length c.layers < most_layers) (node_keys : length c.node_keys + length (props_of x) ≤ most_keys) (edge_keys : length c.edge_keys + length (props_of x) ≤ most_keys)
+    (types : length c.kinds ≤ most_types) where
   for_node : (name : List ℕ) (props : List (List ℕ × Value)) → x.what ≡ Node name props → passed_limit (c.accepted ++ x ∷ []) c.types ≡ None
   for_node name props is =
       let t : Totals = record { events = length c.accepted + 1; nodes = length (insert_key same_name c.nodes name); layers = length c.layers; node_keys = length (with_keys c.node_keys props); edge_keys = length c.edge_keys; types = length c.kinds } in

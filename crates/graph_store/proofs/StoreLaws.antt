@@ -1,8 +1,7 @@
 -- Histories of entities that take an event more.
-use Rattle.std.proofs.Common.{◌≡◌, ℕ, suc, ◌+◌, ◌<◌, ◌≤◌, List, [], ◌∷◌, ◌++◌, Bool, true, false, cond, length, refl, sym, ap, ◌∙◌, arith, subst, ⊎_elim}
+use Rattle.std.proofs.Common.{◌≡◌, ℕ, suc, ◌+◌, ◌<◌, ◌≤◌, List, [], ◌∷◌, ◌++◌, false, cond, length, refl, sym, ap, ◌∙◌, arith, subst, ⊎_elim}
 use Rattle.std.specs.Prelude.{slice_set}
 use Rattle.std.specs.List.{AllByRecursion}
-use Rattle.std.specs.Ordering.{is_lt}
 use Rattle.std.proofs.lemmas.List.{length_push, length-set, get_or-set_same, get_or-set_other}
 use Rattle.std.proofs.Math.ListN.{get_or-append}
 use Rattle.std.proofs.Math.Seq.{get_or-append_seam}
@@ -19,11 +18,12 @@ use Rattle.world_laws.proofs.Order.{same_entity-refl, same_entity-exact}
 use Rattle.world_laws.proofs.Arrivals.{about-push}
 use Rattle.world_laws.proofs.Filters.{each_weaker}
 use Rattle.time_history.specs.declared.updates.Update.{Update}
-use Rattle.time_history.specs.Updates.{placed, update_cmp}
+use Rattle.time_history.specs.Updates.{placed}
 use Rattle.time_history.specs.Telling.{with_key_names, what_told, event_told, events_told}
 use Rattle.graph_store.specs.Filed.{arrived, all_arrived}
 use Rattle.graph_store.specs.Telling.{entity_at, updates_of_number, IsStoredUpdate, TellEvents}
 use Rattle.graph_store.proofs.FiledLaws.{told-placed}
+use Rattle.time_history.proofs.Placed.{each_placed}
 
 -- names of keys that agree on those below n
 with_key_names-same : (names names' : ℕ → List ℕ) (n : ℕ) → ((k : ℕ) → k < n → names' k ≡ names k) → (ps : List (ℕ × Value)) → AllByRecursion (λ (p : ℕ × Value). p.0 < n) ps → with_key_names names' ps ≡ with_key_names names ps
@@ -87,14 +87,6 @@ TellEvents-other names n es hs accepted x apart h = record {
   apart = h.apart;
 }
 
-each_placed : (P : Update → Type 0) (u : Update) (us : List Update) → P u → AllByRecursion P us → AllByRecursion P (placed u us)
-each_placed P u [] a h = (a, tt)
-each_placed P u (v ∷ us) a h = go (is_lt (update_cmp u v)) (each_placed P u us a h.1)
-  where
-    go : (t : Bool) → AllByRecursion P (placed u us) → AllByRecursion P (cond t (u ∷ v ∷ us) (v ∷ placed u us))
-    go true k = (a, h)
-    go false k = (h.0, k)
-
 -- an event of one of these entities is placed in its history
 pub TellEvents-known : (names : ℕ → List ℕ) (n : ℕ) (es : List Entity) (hs : List (List Update)) (accepted : List Event) (x : Event) (i : ℕ) (u : Update)
     → i < length es → entity_at es i ≡ entity_of x → event_told (entity_of x) names u ≡ x → IsStoredUpdate (entity_of x) n (length (accepted ++ x ∷ [])) u
@@ -117,7 +109,7 @@ TellEvents-known names n es hs accepted x i u lt here told new h = record {
       (λ (same : j ≡ i).
       subst (λ k. AllByRecursion (IsStoredUpdate (entity_at es k) n (length (accepted ++ x ∷ []))) (updates_of_number hs' k)) (sym same)
       (subst (AllByRecursion (IsStoredUpdate (entity_at es i) n (length (accepted ++ x ∷ [])))) (sym changed)
-      (each_placed (IsStoredUpdate (entity_at es i) n (length (accepted ++ x ∷ []))) u (updates_of_number hs i) (subst (λ e. IsStoredUpdate e n (length (accepted ++ x ∷ [])) u) (sym here) new) (kept_after (entity_at es i) n accepted x (updates_of_number hs i) (h.kept i lt)))))
+      (each_placed (IsStoredUpdate (entity_at es i) n (length (accepted ++ x ∷ []))) u (updates_of_number hs i) (kept_after (entity_at es i) n accepted x (updates_of_number hs i) (h.kept i lt)) (subst (λ e. IsStoredUpdate e n (length (accepted ++ x ∷ [])) u) (sym here) new))))
       (λ (other : j ≡ i → ⊥).
       subst (AllByRecursion (IsStoredUpdate (entity_at es j) n (length (accepted ++ x ∷ [])))) (sym (get_or-set_other hs i j (placed u (updates_of_number hs i)) [] other))
       (kept_after (entity_at es j) n accepted x (updates_of_number hs j) (h.kept j j_lt)))

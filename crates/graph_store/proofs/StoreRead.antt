@@ -1,6 +1,6 @@
 -- A store's contents are lawful and within the limits.
-use Rattle.std.proofs.Common.{ℕ, ◌≤◌, List, [], ◌∷◌, length, map, sym, ◌∙◌, subst}
-use Rattle.std.specs.Prelude.{IsTrue, fold, int_le}
+use Rattle.std.proofs.Common.{ℕ, ◌≤◌, List, length, map, sym, ◌∙◌, subst}
+use Rattle.std.specs.Prelude.{IsTrue, int_le}
 use Rattle.std.specs.List.{IsDistinct}
 use Rattle.std.proofs.lemmas.List.{length-map}
 use Rattle.graph_model.specs.declared.properties.ValueType.{ValueType}
@@ -8,27 +8,17 @@ use Rattle.graph_model.specs.declared.events.Event.{Event}
 use Rattle.graph_model.specs.Interval.{is_inside}
 use Rattle.graph_model.specs.Names.{same_name}
 use Rattle.graph_model.specs.Rising.{Rises}
-use Rattle.graph_model.specs.World.{IsLawful, allows, type_cmp, put_type}
+use Rattle.graph_model.specs.World.{IsLawful, allows, type_cmp}
 use Rattle.graph_model.specs.Accepting.{Quantity, Events, Nodes, Layers, NodeKeys, EdgeKeys, Types, count_of, limit_of, node_events, edge_events, node_names, layer_names, type_names}
-use Rattle.world_laws.proofs.Order.{type_total}
-use Rattle.world_laws.proofs.RisingItems.{Rises-put}
+use Rattle.graph_model.specs.Limits.{most_events, most_nodes, most_layers, most_keys, most_types}
 use Rattle.world_laws.proofs.Lawful.{all_pass}
 use Rattle.world_laws.proofs.Base.{IsLawful-base}
 use Rattle.time_history.specs.declared.updates.Update.{Update}
-use Rattle.graph_store.specs.Contents.{Contents, AreContents, name_at, base_of}
+use Rattle.graph_store.specs.Contents.{Contents, AreContents, base_of}
 use Rattle.graph_store.specs.Indexed.{IsIndexed}
 use Rattle.graph_store.specs.Lawful.{AreJudged}
-use Rattle.graph_store.specs.TypeIndex.{types_named}
 use Rattle.graph_store.proofs.LawfulLaws.{AreJudged-typed}
 use Rattle.graph_store.proofs.JudgeLaws.{count_is, count_keys, names_of}
-
--- types that are put rise by node
-pub Rises-types_named : (nodes kinds : List (List ℕ)) (numbers : List (ℕ × ℕ)) → Rises type_cmp (types_named nodes kinds numbers)
-Rises-types_named nodes kinds numbers = go [] numbers tt
-  where
-    go : (types : List (List ℕ × List ℕ)) (ps : List (ℕ × ℕ)) → Rises type_cmp types → Rises type_cmp (fold (λ ts p. put_type (name_at nodes p.0, name_at kinds p.1) ts) types ps)
-    go types [] h = h
-    go types (p ∷ ps) h = go (put_type (name_at nodes p.0, name_at kinds p.1) types) ps (Rises-put type_cmp type_total (name_at nodes p.0, name_at kinds p.1) types h)
 
 -- the base world of judged events is lawful
 pub IsLawful-contents : (c : Contents) → AreJudged c.model c.bounds c.accepted → IsTrue (int_le c.bounds.lo c.bounds.hi) → Rises type_cmp c.types → IsLawful (base_of c)
@@ -41,13 +31,13 @@ IsLawful-contents c h ordered rise =
 -- how many there are of each sort
 module _ (c : Contents) (node_updates edge_updates : List (List Update)) (h : AreContents c node_updates edge_updates) (indexed : IsIndexed c)
     (once_node_keys : IsDistinct same_name (map (λ (p : List ℕ × ValueType). p.0) c.node_keys)) (once_edge_keys : IsDistinct same_name (map (λ (p : List ℕ × ValueType). p.0) c.edge_keys)) where
-  pub limits : length c.accepted ≤ 4194304 → length c.nodes ≤ 1048576 → length c.layers ≤ 64 → length c.kinds ≤ 4096 → length c.node_keys ≤ 256 → length c.edge_keys ≤ 256 → (k : Quantity) → count_of k c.accepted c.types ≤ limit_of k
+  pub limits : length c.accepted ≤ most_events → length c.nodes ≤ most_nodes → length c.layers ≤ most_layers → length c.kinds ≤ most_types → length c.node_keys ≤ most_keys → length c.edge_keys ≤ most_keys → (k : Quantity) → count_of k c.accepted c.types ≤ limit_of k
   limits events nodes layers kinds node_keys edge_keys Events = events
   limits events nodes layers kinds node_keys edge_keys Nodes =
-      subst (λ n. n ≤ 1048576) (count_is c.nodes (node_names c.accepted c.types) indexed.node_names (λ n. h.known_nodes n ∙ names_of c.accepted c.types n)) nodes
-  limits events nodes layers kinds node_keys edge_keys Layers = subst (λ n. n ≤ 64) (count_is c.layers (layer_names c.accepted) indexed.layer_names h.known_layers) layers
+      subst (λ n. n ≤ most_nodes) (count_is c.nodes (node_names c.accepted c.types) indexed.node_names (λ n. h.known_nodes n ∙ names_of c.accepted c.types n)) nodes
+  limits events nodes layers kinds node_keys edge_keys Layers = subst (λ n. n ≤ most_layers) (count_is c.layers (layer_names c.accepted) indexed.layer_names h.known_layers) layers
   limits events nodes layers kinds node_keys edge_keys NodeKeys =
-      subst (λ n. n ≤ 256) (sym (length-map c.node_keys (λ (p : List ℕ × ValueType). p.0)) ∙ count_keys c.node_keys (node_events c.accepted) once_node_keys h.node_types) node_keys
+      subst (λ n. n ≤ most_keys) (sym (length-map c.node_keys (λ (p : List ℕ × ValueType). p.0)) ∙ count_keys c.node_keys (node_events c.accepted) once_node_keys h.node_types) node_keys
   limits events nodes layers kinds node_keys edge_keys EdgeKeys =
-      subst (λ n. n ≤ 256) (sym (length-map c.edge_keys (λ (p : List ℕ × ValueType). p.0)) ∙ count_keys c.edge_keys (edge_events c.accepted) once_edge_keys h.edge_types) edge_keys
-  limits events nodes layers kinds node_keys edge_keys Types = subst (λ n. n ≤ 4096) (count_is c.kinds (type_names c.types) indexed.kind_names h.known_kinds) kinds
+      subst (λ n. n ≤ most_keys) (sym (length-map c.edge_keys (λ (p : List ℕ × ValueType). p.0)) ∙ count_keys c.edge_keys (edge_events c.accepted) once_edge_keys h.edge_types) edge_keys
+  limits events nodes layers kinds node_keys edge_keys Types = subst (λ n. n ≤ most_types) (count_is c.kinds (type_names c.types) indexed.kind_names h.known_kinds) kinds

@@ -1,8 +1,9 @@
 -- A store that takes an event of an edge.
-use Rattle.std.proofs.Common.{◌≡◌, ℕ, ℤ, ◌+◌, ◌<◌, ◌≤◌, List, [], ◌∷◌, ◌++◌, Bool, true, false, not, Option, Some, None, length, refl, sym, ap, ◌∙◌, arith, subst, inr}
+use Rattle.std.proofs.Common.{◌≡◌, ℕ, ℤ, ◌+◌, ◌<◌, ◌≤◌, List, [], ◌∷◌, ◌++◌, true, false, not, Option, Some, None, length, refl, sym, ap, ◌∙◌, arith, subst, inr}
 use Rattle.std.specs.Prelude.{position}
 use Rattle.std.proofs.lemmas.List.{length-map, length_push, get_or-map}
-use Rattle.std.proofs.lemmas.Bool.{true≢false}
+use Rattle.std.proofs.lemmas.Bool.{not-true}
+use Rattle.graph_model.specs.Limits.{most_events, most_layers, most_keys}
 use Rattle.graph_model.specs.declared.properties.Value.{Value}
 use Rattle.graph_model.specs.declared.properties.ValueType.{ValueType}
 use Rattle.graph_model.specs.declared.events.EdgeName.{EdgeName}
@@ -64,16 +65,9 @@ module _ (c : Contents) (node_updates edge_updates : List (List Update)) (h : Ar
         last = all_from_each (λ (v : Update). v.arrival < a.number) (updates_of_number edge_updates i)
             (each_weaker (IsStoredUpdate (entity_at (edge_entities c.nodes c.layers c.edges) i) (length c.edge_keys) (length c.accepted)) (λ (v : Update). v.arrival < a.number) (λ v k. let b = k.arrival in omega arith) (updates_of_number edge_updates i) kept);
         sort = inr (all_from_each (λ (v : Update). is_node v.kind ≡ false) (update_of a values ∷ updates_of_number edge_updates i)
-            (kind, each_weaker (IsStoredUpdate (entity_at (edge_entities c.nodes c.layers c.edges) i) (length c.edge_keys) (length c.accepted)) (λ (v : Update). is_node v.kind ≡ false) (λ v k. not_node v.kind (subst (λ e. fits e v.kind ≡ true) at k.kind)) (updates_of_number edge_updates i) kept));
+            (kind, each_weaker (IsStoredUpdate (entity_at (edge_entities c.nodes c.layers c.edges) i) (length c.edge_keys) (length c.accepted)) (λ (v : Update). is_node v.kind ≡ false) (λ v k. not-true (is_node v.kind) (subst (λ e. fits e v.kind ≡ true) at k.kind)) (updates_of_number edge_updates i) kept));
         few = let f = few_updates (key_name c.edge_keys) (length c.edge_keys) (edge_entities c.nodes c.layers c.edges) edge_updates c.accepted h.edges_told i below in omega arith;
       }
-    where
-      not_node : (k : Kind) → not (is_node k) ≡ true → is_node k ≡ false
-      not_node k e = turn (is_node k) e
-        where
-          turn : (t : Bool) → not t ≡ true → t ≡ false
-          turn true e = absurd (true≢false (sym e))
-          turn false e = refl
 
   -- the contents with an event of an edge, and with these edges and histories
   abbrev pub WithEdge : Event → EdgeName → List (List ℕ × Value) → List EdgeParts → List (List Update) → Type 0
@@ -200,7 +194,7 @@ module _ (s : Inside) (h : IsStored s) (indexed : IsIndexed (contents s)) (time 
         subst (λ us. AreContents (contents edge_taken) us (updates_in edge_histories.items)) (sym filed)
         (subst (λ v. AreContents v (with_end_histories s.nodes.names edge (updates_in s.node_histories.items)) (updates_in edge_histories.items)) (sym same) (AreContents-pairs _ links.pairs _ _ after))
 
-    pub IsStored-edge_taken : s.events < 4194304 → length (insert_key same_name s.layers.names edge.layer) ≤ 64 → length (with_keys s.edge_keys props) ≤ 256
+    pub IsStored-edge_taken : s.events < most_events → length (insert_key same_name s.layers.names edge.layer) ≤ most_layers → length (with_keys s.edge_keys props) ≤ most_keys
         → is_inside s.bounds time ≡ true → allows s.model (edge_event time order kind edge props) ≡ true → KeysRise props → mistyped (contents s).accepted (edge_event time order kind edge props) ≡ None → IsStored edge_taken
     IsStored-edge_taken few_events few_layers few_keys inside allowed rise typed = record {
       contents_are = are;
@@ -216,9 +210,9 @@ module _ (s : Inside) (h : IsStored s) (indexed : IsIndexed (contents s)) (time 
           let more = length-insert_key-le same_parts s.links.edges (parts_in (with_ends s.nodes.names edge) (insert_key same_name s.layers.names edge.layer) edge) in
           let same = ap length (edges-has s.nodes.names s.layers.names edge s.links links indexed.node_names indexed.layer_names h.contents_are.within indexed.known_pairs has_named) in
           omega arith;
-      few_layers = subst (λ (ls : List (List ℕ)). length ls ≤ 64) (sym in_layers) few_layers;
+      few_layers = subst (λ (ls : List (List ℕ)). length ls ≤ most_layers) (sym in_layers) few_layers;
       few_node_keys = h.few_node_keys;
-      few_edge_keys = subst (λ (ks : List (List ℕ × ValueType)). length ks ≤ 256) (sym numbered) few_keys;
+      few_edge_keys = subst (λ (ks : List (List ℕ × ValueType)). length ks ≤ most_keys) (sym numbered) few_keys;
       typed_within = subst (λ ns. IsTypeIndex ns s.kinds.names s.types.numbers) (sym names)
           (IsTypeIndex-insert (insert_key same_name s.nodes.names edge.src) s.kinds.names edge.dst s.types.numbers (IsTypeIndex-insert s.nodes.names s.kinds.names edge.src s.types.numbers h.typed_within));
     }

@@ -4,6 +4,7 @@ use Rattle.std.specs.Prelude.{position}
 use Rattle.std.proofs.lemmas.List.{length-map, length_push, get_or-map}
 use Rattle.std.proofs.lemmas.List.Quantifiers.{position-Some}
 use Rattle.indexmap.specs.IndexSet.{insert_key}
+use Rattle.graph_model.specs.Limits.{most_events, most_keys}
 use Rattle.graph_model.specs.declared.properties.Value.{Value}
 use Rattle.graph_model.specs.declared.properties.ValueType.{ValueType}
 use Rattle.graph_model.specs.declared.events.Entity.{Entity}
@@ -131,7 +132,7 @@ module _ (s : Inside) (h : IsStored s) (time : ℤ) (order : ℕ) (name : List �
           pairs = pairs k;
         }
 
-    pub IsStored-taken : s.events < 4194304 → length (with_keys s.node_keys props) ≤ 256 → is_inside s.bounds time ≡ true → KeysRise props → mistyped (contents s).accepted (node_event time order name props) ≡ None → IsStored node_taken
+    pub IsStored-taken : s.events < most_events → length (with_keys s.node_keys props) ≤ most_keys → is_inside s.bounds time ≡ true → KeysRise props → mistyped (contents s).accepted (node_event time order name props) ≡ None → IsStored node_taken
     IsStored-taken few_events few_keys inside rise typed = record {
       contents_are = subst (λ v. AreContents v (updates_in histories.items) (updates_in s.edge_histories.items)) (sym contents-taken) after;
       judged = subst (AreJudged s.model s.bounds) (sym (ap (λ (v : Contents). v.accepted) contents-taken))
@@ -144,7 +145,7 @@ module _ (s : Inside) (h : IsStored s) (time : ℤ) (order : ℕ) (name : List �
       few_edges = let few = h.few_edges in let same = ap length edges in omega arith;
       kind_limit = h.kind_limit;
       few_layers = h.few_layers;
-      few_node_keys = subst (λ (ks : List (List ℕ × ValueType)). length ks ≤ 256) (sym numbered) few_keys;
+      few_node_keys = subst (λ (ks : List (List ℕ × ValueType)). length ks ≤ most_keys) (sym numbered) few_keys;
       few_edge_keys = h.few_edge_keys;
       typed_within = subst (λ ns. IsTypeIndex ns s.kinds.names s.types.numbers) (sym names) (IsTypeIndex-insert s.nodes.names s.kinds.names name s.types.numbers h.typed_within);
     }

@@ -20,8 +20,9 @@ use Rattle.world_laws.proofs.Order.{type_total, same_name-refl, same_name-exact}
 use Rattle.world_laws.proofs.RisingItems.{Rises-put}
 use Rattle.graph_store.specs.Contents.{name_at}
 use Rattle.graph_store.specs.TypeIndex.{types_named, kind_in, IsTypeIndex}
-use Rattle.graph_store.proofs.AcceptNode.{or-nothing, name_at-insert}
+use Rattle.graph_store.proofs.AcceptNode.{name_at-insert}
 use Rattle.graph_store.proofs.AcceptEdge.{length-insert_key}
+use Rattle.graph_store.proofs.Joined.{or-nothing, option_or-none}
 
 -- numbers that keep their names keep the types
 pub types_named-same : (nodes nodes' kinds kinds' : List (List ℕ)) → ((i : ℕ) → i < length nodes → name_at nodes' i ≡ name_at nodes i) → ((i : ℕ) → i < length kinds → name_at kinds' i ≡ name_at kinds i)
@@ -66,10 +67,6 @@ tie Greater h k = cc
 type_of-cons : (t : List ℕ × List ℕ) (types : List (List ℕ × List ℕ)) (n : List ℕ) → type_of (t ∷ types) n ≡ cond (same_name n t.0) (Some t.1) (type_of types n)
 type_of-cons t types n =
     elim (same_name n t.0) as (λ b. option_map (λ (q : List ℕ × List ℕ). q.1) (cond b (Some t) (find (λ (q : List ℕ × List ℕ). same_name n q.0) types)) ≡ cond b (Some t.1) (type_of types n)) [ true ↦ refl | false ↦ refl ]
-
-option_or-none : (o : Option (List ℕ)) → option_or o None ≡ o
-option_or-none None = refl
-option_or-none (Some x) = refl
 
 -- types of later nodes have no type for it
 type_of-absent : (t : List ℕ × List ℕ) (types : List (List ℕ × List ℕ)) (n : List ℕ) → same_name n t.0 ≡ true → AllByRecursion (λ u. type_cmp t u ≡ Less) types → type_of types n ≡ None

@@ -1,11 +1,11 @@
 -- The types of a store's nodes, by its numbers.
-use Rattle.std.proofs.Common.{◌≡◌, ℕ, ◌<◌, ◌≤◌, List, [], ◌∷◌, ◌++◌, Bool, true, false, not, cond, ◌||◌, Option, Some, None, length, refl, sym, ap, ◌∙◌, ⊎_elim}
+use Rattle.std.proofs.Common.{◌≡◌, ℕ, ◌<◌, ◌≤◌, List, [], ◌∷◌, ◌++◌, Bool, true, false, not, cond, Option, Some, None, length, refl, sym, ap, ◌∙◌, ⊎_elim}
 use Rattle.std.specs.Prelude.{is_some, option_map, position, IfSome}
 use Rattle.std.specs.Option.{option_map_or}
 use Rattle.std.specs.List.{list_any}
 use Rattle.std.proofs.lemmas.List.{get_or-map, length-map}
 use Rattle.std.proofs.lemmas.List.Quantifiers.{position-Some}
-use Rattle.std.proofs.lemmas.Bool.{cases_lt, or_right, true≢false}
+use Rattle.std.proofs.lemmas.Bool.{cases_lt, or_right, true≢false, or_parts}
 use Rattle.std.proofs.lemmas.Option.{none-some}
 use Rattle.indexmap.specs.IndexSet.{insert_key}
 use Rattle.graph_model.specs.declared.events.Entity.TheVariants.{Node}
@@ -22,6 +22,7 @@ use Rattle.graph_store.specs.Contents.{name_at}
 use Rattle.graph_store.proofs.AcceptNode.{name_at-insert}
 use Rattle.graph_store.proofs.Readers.{none_found}
 use Rattle.graph_store.proofs.TypeLaws.{Rises-types_named, type_of-number, kind_in-within, kind_in-past, put_type-known, type_name-there}
+use Rattle.graph_store.proofs.Results.{insert_key-known}
 
 none_of : (o : Option ℕ) (f : ℕ → List ℕ) → option_map f o ≡ None → o ≡ None
 none_of None f e = refl
@@ -38,10 +39,6 @@ if_some (Some k) P f = f k refl
 pub is_some-map : (f : ℕ → List ℕ) (o : Option ℕ) → is_some (option_map f o) ≡ is_some o
 is_some-map f None = refl
 is_some-map f (Some x) = refl
-
--- a name that is there leaves names as they are
-pub insert-known : (names : List (List ℕ)) (name : List ℕ) → list_any (same_name name) names ≡ true → insert_key same_name names name ≡ names
-insert-known names name e = ap (λ t. cond t names (names ++ name ∷ [])) e
 
 module _ (s : Inside) (h : IsStored s) where
   names_apart : (i j : ℕ) → i < length s.nodes.names → j < length s.nodes.names → name_at s.nodes.names i ≡ name_at s.nodes.names j → i ≡ j
@@ -65,11 +62,7 @@ module _ (s : Inside) (h : IsStored s) where
   -- a node that is not found has no type
   pub kind_missed : (node : List ℕ) → position (same_name node) s.nodes.names ≡ None → type_of (contents s).types node ≡ None
   kind_missed node e =
-      absent_of (type_of (contents s).types node) (right (names_node (contents s).accepted node) (is_some (type_of (contents s).types node)) (sym (h.contents_are.known_nodes node) ∙ none_found (same_name node) s.nodes.names e))
-    where
-      right : (a b : Bool) → (a || b) ≡ false → b ≡ false
-      right true b f = absurd (true≢false f)
-      right false b f = f
+      absent_of (type_of (contents s).types node) (or_parts (names_node (contents s).accepted node) (is_some (type_of (contents s).types node)) (sym (h.contents_are.known_nodes node) ∙ none_found (same_name node) s.nodes.names e)).1
 
   -- the number of a node that has no type has none
   pub number_untyped : (node : List ℕ) (n : ℕ) → position (same_name node) (insert_key same_name s.nodes.names node) ≡ Some n → type_of (contents s).types node ≡ None → kind_in s.types.numbers n ≡ None
@@ -95,8 +88,8 @@ module _ (s : Inside) (h : IsStored s) where
       same : type_of (contents s).types node ≡ Some kind → with_type (contents s) node kind ≡ contents s
       same e = λ i. record (contents s) {
         types = put_type-known (node, kind) (contents s).types (Rises-types_named s.nodes.names s.kinds.names s.types.numbers) has i;
-        nodes = insert-known s.nodes.names node (node_known node kind e) i;
-        kinds = insert-known s.kinds.names kind (kind_known node kind e) i;
+        nodes = insert_key-known same_name s.nodes.names node (node_known node kind e) i;
+        kinds = insert_key-known same_name s.kinds.names kind (kind_known node kind e) i;
       }
 
       own : (kept : List ℕ) (b : Bool) → same_name kept kind ≡ b → type_of (contents s).types node ≡ Some kept

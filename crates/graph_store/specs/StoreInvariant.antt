@@ -1,5 +1,6 @@
 -- The fields of a store, and what they contain.
 use Rattle.std.specs.Prelude.{◌≡◌, ◌≤◌, ◌++◌, length}
+use Rattle.graph_model.specs.Limits.{most_events, most_nodes, most_layers, most_types, most_keys}
 use Rattle.graph_store.specs.declared.store.Store.TheInside.{Inside}
 use Rattle.graph_store.specs.Keys.{key_name}
 use Rattle.graph_store.specs.Filed.{all_arrived, by_arrival}
@@ -29,13 +30,13 @@ pub record IsStored (s : Inside) : Type 0 where
   pub judged : AreJudged s.model s.bounds (contents s).accepted
   pub linked : s.links.nodes ≡ length s.nodes.names
   pub events : length (contents s).accepted ≡ s.events
-  pub few_events : s.events ≤ 4194304
-  pub node_limit : s.nodes.limit ≡ 1048576
-  pub layer_limit : s.layers.limit ≡ 64
+  pub few_events : s.events ≤ most_events
+  pub node_limit : s.nodes.limit ≡ most_nodes
+  pub layer_limit : s.layers.limit ≡ most_layers
   pub few_edges : length s.links.edges ≤ s.events
-  pub kind_limit : s.kinds.limit ≡ 4096
-  pub few_layers : length s.layers.names ≤ 64
-  pub few_node_keys : length s.node_keys ≤ 256
-  pub few_edge_keys : length s.edge_keys ≤ 256
+  pub kind_limit : s.kinds.limit ≡ most_types
+  pub few_layers : length s.layers.names ≤ most_layers
+  pub few_node_keys : length s.node_keys ≤ most_keys
+  pub few_edge_keys : length s.edge_keys ≤ most_keys
   -- what has a type, and the type, have numbers
   pub typed_within : IsTypeIndex s.nodes.names s.kinds.names s.types.numbers

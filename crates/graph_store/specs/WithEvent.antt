@@ -8,6 +8,7 @@ use Rattle.graph_model.specs.declared.events.EdgeName.{EdgeName}
 use Rattle.graph_model.specs.declared.events.Entity.TheVariants.{Edge}
 use Rattle.graph_model.specs.declared.events.What.{What}
 use Rattle.graph_model.specs.declared.events.What.TheVariants.{Node, Add, Delete}
+use Rattle.graph_model.specs.Limits.{most_events, most_nodes, most_layers, most_keys}
 use Rattle.graph_model.specs.Names.{same_name}
 use Rattle.time_history.specs.declared.updates.Kind.{Kind}
 use Rattle.time_history.specs.Telling.{what_told}
@@ -63,8 +64,8 @@ with_event c x = with_what c x x.what
 
 -- there is room within the limits for an event, after which the contents are these
 pub record HasRoom (before after : Contents) : Type 0 where
-  pub events : length before.accepted < 4194304
-  pub nodes : length after.nodes ≤ 1048576
-  pub layers : length after.layers ≤ 64
-  pub node_keys : length after.node_keys ≤ 256
-  pub edge_keys : length after.edge_keys ≤ 256
+  pub events : length before.accepted < most_events
+  pub nodes : length after.nodes ≤ most_nodes
+  pub layers : length after.layers ≤ most_layers
+  pub node_keys : length after.node_keys ≤ most_keys
+  pub edge_keys : length after.edge_keys ≤ most_keys

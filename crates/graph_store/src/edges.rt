@@ -73,10 +73,17 @@ impl Model for EdgeTable {
       edges = edges_from t.pairs.pairs t.pair_of.items t.layer_of.items;
       pairs = t.pairs.pairs;
       spare_nodes = t.pairs.spare_nodes;
-      spare_edges = min (min (min (vec_capacity t.pair_of - vec_len t.pair_of) (vec_capacity t.layer_of - vec_len t.layer_of)) t.pairs.spare_pairs) (min t.of_pair.spare_lists t.of_pair.spare_links);
+      spare_edges = min
+          (min
+          (min (vec_capacity t.pair_of - vec_len t.pair_of)
+          (vec_capacity t.layer_of - vec_len t.layer_of))
+          t.pairs.spare_pairs)
+          (min t.of_pair.spare_lists t.of_pair.spare_links);
     } };
 
-    ghost invariant = { λ t. HavePairs t.pairs.pairs t.pair_of.items t.layer_of.items × IsEdgeIndex (edges_from t.pairs.pairs t.pair_of.items t.layer_of.items) t.pairs t.of_pair.lists t.of_pair.links };
+    ghost invariant = { λ t. HavePairs t.pairs.pairs t.pair_of.items t.layer_of.items
+        × IsEdgeIndex (edges_from t.pairs.pairs t.pair_of.items t.layer_of.items) t.pairs
+        t.of_pair.lists t.of_pair.links };
 }
 
 /// The number of a pair, which is new or known.
@@ -91,7 +98,8 @@ fn number_of_pair(pairs: &mut PairTable, of_pair: &mut NumberLists, ends: Ends) 
     ensures pairs { pairs.new.pairs ≡ insert_key same_ends pairs.old.pairs ends }
     ensures within { result < length pairs.new.pairs }
     ensures number { ends_at pairs.new.pairs result ≡ ends }
-    ensures lists { of_pair.new.lists ≡ (if list_any (same_ends ends) pairs.old.pairs then of_pair.old.lists else of_pair.old.lists ++ [] ∷ []) }
+    ensures lists { of_pair.new.lists ≡ (if list_any (same_ends ends) pairs.old.pairs
+        then of_pair.old.lists else of_pair.old.lists ++ [] ∷ []) }
     ensures distinct { IsDistinct same_ends pairs.new.pairs }
     ensures spare_nodes { pairs.old.spare_nodes ≤ pairs.new.spare_nodes }
     ensures links { of_pair.new.links ≡ of_pair.old.links }
@@ -142,8 +150,11 @@ impl EdgeTable {
     pub fn len(&self) -> u32
         ensures len { result ≡ length self.now.edges }
         ensures distinct { IsDistinct same_parts self.now.edges }
-        ensures within { (e : ℕ) → e < length self.now.edges → ((parts_at self.now.edges e).src < self.now.nodes) × ((parts_at self.now.edges e).dst < self.now.nodes) }
-        ensures known { (ends : Ends) → list_any (same_ends ends) self.now.pairs ≡ list_any (λ (e : EdgeParts). same_ends ends (ends_of e)) self.now.edges }
+        ensures within { (e : ℕ) → e < length self.now.edges
+            → ((parts_at self.now.edges e).src < self.now.nodes)
+            × ((parts_at self.now.edges e).dst < self.now.nodes) }
+        ensures known { (ends : Ends) → list_any (same_ends ends) self.now.pairs
+            ≡ list_any (λ (e : EdgeParts). same_ends ends (ends_of e)) self.now.edges }
     {
         self.pair_of.len() as u32
     }
@@ -168,7 +179,8 @@ impl EdgeTable {
     /// The number of a pair.
     pub fn find_pair(&self, ends: Ends) -> Option<u32>
         ensures place { result ≡ position (same_ends ends) self.now.pairs }
-        ensures known { is_some result ≡ list_any (λ (e : EdgeParts). same_ends ends (ends_of e)) self.now.edges }
+        ensures known { is_some result
+            ≡ list_any (λ (e : EdgeParts). same_ends ends (ends_of e)) self.now.edges }
     {
         self.pairs.find(ends)
     }

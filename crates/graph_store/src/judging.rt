@@ -2,29 +2,33 @@
 ghost use Rattle.std.specs.Prelude.{◌≡◌, ℕ, ◌+◌, ◌-◌, ◌^◌, ◌<◌, ◌≤◌, option_map, length, IsTrue};
 ghost use Rattle.std.specs.List.{find};
 ghost use Rattle.indexmap.specs.IndexSet.{insert_key};
+ghost use Rattle.graph_model.specs.Limits.{most_events, most_nodes, most_layers, most_keys};
 ghost use Rattle.graph_model.specs.Names.{same_name};
 ghost use Rattle.graph_model.specs.Entity.{props_of};
 ghost use Rattle.graph_model.specs.World.{allows};
 ghost use Rattle.graph_model.specs.Accepting.{all_quantities};
 ghost use Rattle.graph_store.specs.Refusals.{quantity_of, is_above};
 
-use graph_model::{Event, Model, Name, ValueType, What};
+use graph_model::{
+    Event, MOST_EVENTS, MOST_KEYS, MOST_LAYERS, MOST_NODES, MOST_TYPES, Model, Name, ValueType,
+    What,
+};
 use name_intern::NameTable;
 
 /// What there are limits for, in the order in which they are looked at.
 #[derive(Clone, Copy, Debug, PartialEq, Eq)]
 pub enum Count {
-    /// Accepted events, 4,194,304 at the most.
+    /// Accepted events, `MOST_EVENTS` at the most.
     Events,
-    /// Nodes that events or types name, 1,048,576 at the most.
+    /// Nodes that events or types name, `MOST_NODES` at the most.
     Nodes,
-    /// Layers, 64 at the most.
+    /// Layers, `MOST_LAYERS` at the most.
     Layers,
-    /// Keys of nodes, 256 at the most.
+    /// Keys of nodes, `MOST_KEYS` at the most.
     NodeKeys,
-    /// Keys of edges, 256 at the most.
+    /// Keys of edges, `MOST_KEYS` at the most.
     EdgeKeys,
-    /// Names of types, 4,096 at the most.
+    /// Names of types, `MOST_TYPES` at the most.
     Types,
 }
 
@@ -58,22 +62,22 @@ pub struct Totals {
 pub fn first_above(totals: Totals) -> Option<Count>
     ensures { option_map quantity_of result ≡ find (is_above totals) all_quantities }
 {
-    if totals.events > 4194304 {
+    if totals.events > MOST_EVENTS {
         return Some(Count::Events);
     }
-    if totals.nodes > 1048576 {
+    if totals.nodes > MOST_NODES {
         return Some(Count::Nodes);
     }
-    if totals.layers > 64 {
+    if totals.layers > MOST_LAYERS {
         return Some(Count::Layers);
     }
-    if totals.node_keys > 256 {
+    if totals.node_keys > MOST_KEYS as usize {
         return Some(Count::NodeKeys);
     }
-    if totals.edge_keys > 256 {
+    if totals.edge_keys > MOST_KEYS as usize {
         return Some(Count::EdgeKeys);
     }
-    if totals.types > 4096 {
+    if totals.types > MOST_TYPES {
         return Some(Count::Types);
     }
     None
@@ -82,19 +86,19 @@ pub fn first_above(totals: Totals) -> Option<Count>
 /// Whether no limit is passed with an event, two nodes, a layer, and so many keys of nodes and of
 /// edges more.
 pub fn leaves_room(totals: Totals, keys: usize) -> bool
-    requires node_keys { totals.node_keys ≤ 256 }
-    requires edge_keys { totals.edge_keys ≤ 256 }
-    ensures events { IsTrue result → totals.events < 4194304 }
-    ensures nodes { IsTrue result → totals.nodes + 2 ≤ 1048576 }
-    ensures layers { IsTrue result → totals.layers < 64 }
-    ensures node_keys { IsTrue result → totals.node_keys + keys ≤ 256 }
-    ensures edge_keys { IsTrue result → totals.edge_keys + keys ≤ 256 }
+    requires node_keys { totals.node_keys ≤ most_keys }
+    requires edge_keys { totals.edge_keys ≤ most_keys }
+    ensures events { IsTrue result → totals.events < most_events }
+    ensures nodes { IsTrue result → totals.nodes + 2 ≤ most_nodes }
+    ensures layers { IsTrue result → totals.layers < most_layers }
+    ensures node_keys { IsTrue result → totals.node_keys + keys ≤ most_keys }
+    ensures edge_keys { IsTrue result → totals.edge_keys + keys ≤ most_keys }
 {
-    totals.events < 4194304
-        && totals.nodes < 1048575
-        && totals.layers < 64
-        && keys <= 256 - totals.node_keys
-        && keys <= 256 - totals.edge_keys
+    totals.events < MOST_EVENTS
+        && totals.nodes < MOST_NODES - 1
+        && totals.layers < MOST_LAYERS
+        && keys <= MOST_KEYS as usize - totals.node_keys
+        && keys <= MOST_KEYS as usize - totals.edge_keys
 }
 
 /// How many keys an event sets.
@@ -132,7 +136,9 @@ pub fn count_with(names: &NameTable, name: &Name) -> u32
 /// How many names there would be with two that are new or known.
 pub fn count_with_both(names: &NameTable, first: &Name, second: &Name) -> u32
     requires { length names.now.names < 2 ^ 32 - 2 }
-    ensures { result ≡ length (insert_key same_name (insert_key same_name names.now.names first.now) second.now) }
+    ensures { result
+        ≡ length (insert_key same_name
+        (insert_key same_name names.now.names first.now) second.now) }
 {
     let known = count_with(names, first);
     if *first == *second {

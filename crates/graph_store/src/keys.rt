@@ -190,7 +190,8 @@ impl KeyTable {
     /// The values of properties, by the numbers of their keys, which are all there.
     pub fn number(&self, alloc: Global, props: &Props) -> Result<KeyValues, Memory>
         requires few { length self.now < 2 ^ 32 }
-        requires known { (i : ℕ) → i < length props.now → is_some (type_in self.now (prop_at props.now i).0) ≡ true }
+        requires known { (i : ℕ) → i < length props.now
+            → is_some (type_in self.now (prop_at props.now i).0) ≡ true }
         ensures { IfOk result (AreNumbered self.now props.now) }
     {
         let mut numbered = SmallVec::new(alloc);

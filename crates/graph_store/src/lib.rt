@@ -1,4 +1,5 @@
-//! The accepted events of a graph, kept as histories of numbered nodes and edges, and the types of nodes.
+//! The accepted events of a graph, kept as histories of numbered nodes and edges, and the types of
+//! nodes.
 #![tactic(auto)]
 
 mod edges;

@@ -2,6 +2,7 @@
 ghost use Rattle.std.specs.Prelude.{◌≡◌, ℕ, ◌+◌, ◌-◌, ◌^◌, ◌<◌, ◌≤◌, Some, length, position, vec_len};
 ghost use Rattle.std.specs.Vec.{vec_capacity};
 ghost use Rattle.indexmap.specs.IndexSet.{insert_key};
+ghost use Rattle.graph_model.specs.Limits.{most_layers};
 ghost use Rattle.graph_model.specs.Names.{same_name};
 ghost use Rattle.graph_model.specs.Entity.{same_entity};
 ghost use Rattle.graph_model.specs.declared.events.Entity.TheVariants.{Edge as EdgeNamed};
@@ -24,9 +25,13 @@ pub fn number_of_edge(
     links: &EdgeTable,
     edge: &EdgeName,
 ) -> Option<u32>
-    requires few_layers { length layers.now.names ≤ 64 }
-    requires within { (e : ℕ) → e < length links.now.edges → ((parts_at links.now.edges e).src < length nodes.now.names) × ((parts_at links.now.edges e).dst < length nodes.now.names) × ((parts_at links.now.edges e).layer < length layers.now.names) }
-    ensures { result ≡ position (same_entity (EdgeNamed edge.now)) (edge_entities nodes.now.names layers.now.names links.now.edges) }
+    requires few_layers { length layers.now.names ≤ most_layers }
+    requires within { (e : ℕ) → e < length links.now.edges
+        → ((parts_at links.now.edges e).src < length nodes.now.names)
+        × ((parts_at links.now.edges e).dst < length nodes.now.names)
+        × ((parts_at links.now.edges e).layer < length layers.now.names) }
+    ensures { result ≡ position (same_entity (EdgeNamed edge.now))
+        (edge_entities nodes.now.names layers.now.names links.now.edges) }
 {
     let _node_count = nodes.len();
     let _layer_count = layers.len();
@@ -77,11 +82,13 @@ pub fn number_node(
     ensures linked { links.new.nodes ≡ length nodes.new.names }
     ensures edges { links.new.edges ≡ links.old.edges }
     ensures pairs { links.new.pairs ≡ links.old.pairs }
-    ensures filed { updates_in histories.new.items ≡ with_history nodes.old.names name (updates_in histories.old.items) }
+    ensures filed { updates_in histories.new.items
+        ≡ with_history nodes.old.names name (updates_in histories.old.items) }
     ensures name_spare { nodes.old.spare ≤ nodes.new.spare + 1 }
     ensures node_spare { links.old.spare_nodes ≤ links.new.spare_nodes + 1 }
     ensures edge_spare { links.old.spare_edges ≤ links.new.spare_edges }
-    ensures history_spare { vec_len histories.new + vec_capacity histories.old ≤ vec_len histories.old + 1 + vec_capacity histories.new }
+    ensures history_spare { vec_len histories.new + vec_capacity histories.old
+        ≤ vec_len histories.old + 1 + vec_capacity histories.new }
 {
     if let Some(number) = nodes.find(&name) {
         return number;
@@ -104,8 +111,9 @@ pub fn number_parts(
     requires linked { links.old.nodes ≡ length nodes.old.names }
     requires few { length (with_ends nodes.old.names edge) ≤ nodes.old.limit }
     requires fewer { length nodes.old.names < 2 ^ 32 - 2 }
-    requires few_layers { length (insert_key same_name layers.old.names edge.layer) ≤ layers.old.limit }
-    requires layer_limit { layers.old.limit ≡ 64 }
+    requires few_layers { length (insert_key same_name layers.old.names edge.layer)
+        ≤ layers.old.limit }
+    requires layer_limit { layers.old.limit ≡ most_layers }
     requires name_room { 1 < nodes.old.spare }
     requires layer_room { 0 < layers.old.spare }
     requires node_room { 1 < links.old.spare_nodes }
@@ -117,7 +125,8 @@ pub fn number_parts(
     ensures linked { links.new.nodes ≡ length nodes.new.names }
     ensures edges { links.new.edges ≡ links.old.edges }
     ensures pairs { links.new.pairs ≡ links.old.pairs }
-    ensures filed { updates_in histories.new.items ≡ with_end_histories nodes.old.names edge (updates_in histories.old.items) }
+    ensures filed { updates_in histories.new.items
+        ≡ with_end_histories nodes.old.names edge (updates_in histories.old.items) }
     ensures parts { edge_name nodes.new.names layers.new.names result ≡ edge }
     ensures src { result.src < length nodes.new.names }
     ensures dst { result.dst < length nodes.new.names }

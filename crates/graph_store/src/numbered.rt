@@ -42,7 +42,8 @@ fn place_of(items: &[Numbered], key: u32) -> usize
 
 /// Puts a value before the first of a greater key.
 pub fn put(items: &mut SmallVec<Numbered, 4>, item: Numbered) -> Result<(), Memory>
-    ensures ok { OnOk result (pairs_in items.new.items ≡ put_number (item.key, item.value) (pairs_in items.old.items)) }
+    ensures ok { OnOk result (pairs_in items.new.items
+        ≡ put_number (item.key, item.value) (pairs_in items.old.items)) }
     ensures err { OnErr result (items.new.items ≡ items.old.items) }
 {
     let place = place_of(items.as_slice(), item.key);

@@ -4,6 +4,7 @@ ghost use Rattle.std.specs.List.{list_any, find};
 ghost use Rattle.graph_model.specs.Names.{same_name};
 
 use crate::edges::EdgeTable;
+use crate::filing::reserve_nodes;
 use crate::judging::{
     StoreRefusal, Totals, count_with, count_with_both, first_above, is_allowed, key_count,
     leaves_room,
@@ -14,7 +15,10 @@ use crate::pairs::Ends;
 use crate::taking::{Arrival, take_edge, take_node};
 use crate::types::TypeTable;
 use crate::walks::{EdgeId, EdgeWalk, NodeId, PairId, PairWalk};
-use graph_model::{Bounds, EdgeName, Event, Memory, Model, Name, Props, ValueType, What};
+use graph_model::{
+    Bounds, EdgeName, Event, MOST_LAYERS, MOST_NODES, MOST_TYPES, Memory, Model, Name, Props,
+    ValueType, What,
+};
 use name_intern::NameTable;
 use std::alloc::Global;
 use std::sync::ledger::Ledger;
@@ -56,6 +60,7 @@ impl std::marker::Model for Store {
 impl Store {
     ghost use Rattle.graph_model.specs.Entity.{same_entity, is_about};
     ghost use Rattle.graph_model.specs.Interval.{is_inside};
+    ghost use Rattle.graph_model.specs.Limits.{most_events, most_nodes, most_layers, most_keys, most_types};
     ghost use Rattle.graph_model.specs.World.{names_node, type_of, put_type, events_of, allows, IsLawful};
     ghost use Rattle.graph_model.specs.Accepting.{Quantity, all_quantities, layer_names, key_names, type_names, node_events, edge_events, count_of, limit_of, mistyped, passed_limit, event_refusal, is_other_type, type_refusal};
     ghost use Rattle.graph_model.specs.declared.events.Entity.TheVariants.{Node as NodeNamed, Edge as EdgeNamed};
@@ -98,9 +103,9 @@ impl Store {
             model,
             bounds,
             events: 0,
-            nodes: NameTable::new(alloc, 1048576),
-            layers: NameTable::new(alloc, 64),
-            kinds: NameTable::new(alloc, 4096),
+            nodes: NameTable::new(alloc, MOST_NODES),
+            layers: NameTable::new(alloc, MOST_LAYERS),
+            kinds: NameTable::new(alloc, MOST_TYPES),
             types: TypeTable::new(alloc),
             node_keys: KeyTable::new(alloc),
             edge_keys: KeyTable::new(alloc),
@@ -128,7 +133,8 @@ impl Store {
     pub fn events(&self) -> u32
         ensures len { result ≡ length self.now.accepted }
         ensures lawful { IsLawful (base_of self.now) }
-        ensures limits { (counted : Quantity) → count_of counted self.now.accepted self.now.types ≤ limit_of counted }
+        ensures limits { (counted : Quantity)
+            → count_of counted self.now.accepted self.now.types ≤ limit_of counted }
     {
         let _indexed = self.nodes();
         let _kinds = self.kinds.len();
@@ -141,7 +147,7 @@ impl Store {
     /// How many nodes there are. Their numbers are below that.
     pub fn nodes(&self) -> u32
         ensures len { result ≡ length self.now.nodes }
-        ensures few { result ≤ 1048576 }
+        ensures few { result ≤ most_nodes }
         ensures indexed { IsIndexed self.now }
     {
         let _layers = self.layers.len();
@@ -151,34 +157,34 @@ impl Store {
         self.nodes.len()
     }
 
-    /// How many layers there are, 64 at the most. Their numbers are below that.
+    /// How many layers there are, `MOST_LAYERS` at the most. Their numbers are below that.
     pub fn layers(&self) -> u32
         ensures len { result ≡ length self.now.layers }
-        ensures few { result ≤ 64 }
+        ensures few { result ≤ most_layers }
     {
         self.layers.len()
     }
 
-    /// How many keys of nodes there are, 256 at the most. Their numbers are below that.
+    /// How many keys of nodes there are, `MOST_KEYS` at the most. Their numbers are below that.
     pub fn node_keys(&self) -> u32
         ensures len { result ≡ length self.now.node_keys }
-        ensures few { result ≤ 256 }
+        ensures few { result ≤ most_keys }
     {
         self.node_keys.len()
     }
 
-    /// How many keys of edges there are, 256 at the most. Their numbers are below that.
+    /// How many keys of edges there are, `MOST_KEYS` at the most. Their numbers are below that.
     pub fn edge_keys(&self) -> u32
         ensures len { result ≡ length self.now.edge_keys }
-        ensures few { result ≤ 256 }
+        ensures few { result ≤ most_keys }
     {
         self.edge_keys.len()
     }
 
-    /// How many names of types there are, 4,096 at the most. Their numbers are below that.
+    /// How many names of types there are, `MOST_TYPES` at the most. Their numbers are below that.
     pub fn types(&self) -> u32
         ensures len { result ≡ length self.now.kinds }
-        ensures few { result ≤ 4096 }
+        ensures few { result ≤ most_types }
     {
         self.kinds.len()
     }
@@ -199,8 +205,10 @@ impl Store {
 
     /// The number of a node, if an accepted event or type has named it.
     pub fn node_of(&self, name: &Name) -> Option<NodeId>
-        ensures place { option_map (λ n. n.0) result ≡ position (same_name name.now) self.now.nodes }
-        ensures known { is_some result ≡ (names_node self.now.accepted name.now || is_some (type_of self.now.types name.now)) }
+        ensures place { option_map (λ n. n.0) result
+            ≡ position (same_name name.now) self.now.nodes }
+        ensures known { is_some result
+            ≡ (names_node self.now.accepted name.now || is_some (type_of self.now.types name.now)) }
     {
         match self.nodes.find(name) {
             Some(node) => Some(NodeId(node)),
@@ -227,7 +235,8 @@ impl Store {
     /// The number of a layer, if an accepted event has named it.
     pub fn layer_of(&self, name: &Name) -> Option<u8>
         ensures place { result ≡ position (same_name name.now) self.now.layers }
-        ensures known { is_some result ≡ list_any (same_name name.now) (layer_names self.now.accepted) }
+        ensures known { is_some result
+            ≡ list_any (same_name name.now) (layer_names self.now.accepted) }
     {
         let _few = self.layers.len();
         match self.layers.find(name) {
@@ -239,7 +248,8 @@ impl Store {
     /// The number of a key of nodes, if an accepted event has given it a value.
     pub fn node_key(&self, key: &Name) -> Option<u32>
         ensures place { result ≡ position (same_name key.now) (map (λ p. p.0) self.now.node_keys) }
-        ensures known { is_some result ≡ list_any (same_name key.now) (key_names (node_events self.now.accepted)) }
+        ensures known { is_some result
+            ≡ list_any (same_name key.now) (key_names (node_events self.now.accepted)) }
     {
         match self.node_keys.find(key) {
             Some(place) => Some(place as u32),
@@ -250,7 +260,8 @@ impl Store {
     /// The number of a key of edges, if an accepted event has given it a value.
     pub fn edge_key(&self, key: &Name) -> Option<u32>
         ensures place { result ≡ position (same_name key.now) (map (λ p. p.0) self.now.edge_keys) }
-        ensures known { is_some result ≡ list_any (same_name key.now) (key_names (edge_events self.now.accepted)) }
+        ensures known { is_some result
+            ≡ list_any (same_name key.now) (key_names (edge_events self.now.accepted)) }
     {
         match self.edge_keys.find(key) {
             Some(place) => Some(place as u32),
@@ -276,8 +287,11 @@ impl Store {
 
     /// The number of an edge, if an accepted event has named it.
     pub fn edge_of(&self, name: &EdgeName) -> Option<EdgeId>
-        ensures place { option_map (λ e. e.0) result ≡ position (same_entity (EdgeNamed name.now)) (edge_entities self.now.nodes self.now.layers self.now.edges) }
-        ensures known { is_some result ≡ list_any (is_about (EdgeNamed name.now)) self.now.accepted }
+        ensures place { option_map (λ e. e.0) result
+            ≡ position (same_entity (EdgeNamed name.now))
+            (edge_entities self.now.nodes self.now.layers self.now.edges) }
+        ensures known { is_some result
+            ≡ list_any (is_about (EdgeNamed name.now)) self.now.accepted }
     {
         match number_of_edge(&self.nodes, &self.layers, &self.links, name) {
             Some(edge) => Some(EdgeId(edge)),
@@ -311,8 +325,10 @@ impl Store {
 
     /// The number of a pair, if an accepted event has named an edge with these ends.
     pub fn pair_of(&self, src: NodeId, dst: NodeId) -> Option<PairId>
-        ensures place { option_map (λ p. p.0) result ≡ position (same_ends (record { src = src.0; dst = dst.0 })) self.now.pairs }
-        ensures known { is_some result ≡ list_any (λ e. same_ends (record { src = src.0; dst = dst.0 }) (ends_of e)) self.now.edges }
+        ensures place { option_map (λ p. p.0) result
+            ≡ position (same_ends (record { src = src.0; dst = dst.0 })) self.now.pairs }
+        ensures known { let ends : Ends = record { src = src.0; dst = dst.0 } in
+            is_some result ≡ list_any (λ e. same_ends ends (ends_of e)) self.now.edges }
     {
         let ends = Ends {
             src: src.0,
@@ -327,7 +343,8 @@ impl Store {
     /// The number of a node's type, if it has one.
     pub fn type_of(&self, n: NodeId) -> Option<u32>
         requires { n.0 < length self.now.nodes }
-        ensures kind { option_map (name_at self.now.kinds) result ≡ type_of self.now.types (name_at self.now.nodes n.0) }
+        ensures kind { option_map (name_at self.now.kinds) result
+            ≡ type_of self.now.types (name_at self.now.nodes n.0) }
         ensures within { IfSome result (λ kind. kind < length self.now.kinds) }
     {
         self.types.kind_of(n.0)
@@ -352,12 +369,16 @@ impl Store {
     /// The updates of a node, which tell its events in the base world.
     pub fn node_history(&self, n: NodeId) -> &History
         requires { n.0 < length self.now.nodes }
-        ensures told { events_told (NodeNamed (name_at self.now.nodes n.0)) (key_name self.now.node_keys) result.now.updates ≡ events_of (base_of self.now) (NodeNamed (name_at self.now.nodes n.0)) }
+        ensures told { let node = NodeNamed (name_at self.now.nodes n.0) in
+            events_told node (key_name self.now.node_keys) result.now.updates
+            ≡ events_of (base_of self.now) node }
         ensures fits { Fits (NodeNamed (name_at self.now.nodes n.0)) result.now.updates }
-        ensures keys { AreNamed (key_name self.now.node_keys) (length self.now.node_keys) result.now.updates }
+        ensures keys { AreNamed (key_name self.now.node_keys) (length self.now.node_keys)
+            result.now.updates }
         ensures within { AreWithin self.now.bounds result.now.updates }
         ensures allowed { IsAllowed self.now.model result.now.updates }
-        ensures whole { IsTaken self.now.model self.now.bounds result.now.updates (span_of_all result.now.updates) }
+        ensures whole { IsTaken self.now.model self.now.bounds result.now.updates
+            (span_of_all result.now.updates) }
     {
         let _keys = self.node_keys.len();
         &self.node_histories[n.0 as usize]
@@ -366,12 +387,18 @@ impl Store {
     /// The updates of an edge, which tell its events in the base world.
     pub fn edge_history(&self, e: EdgeId) -> &History
         requires { e.0 < length self.now.edges }
-        ensures told { events_told (EdgeNamed (edge_name self.now.nodes self.now.layers (parts_at self.now.edges e.0))) (key_name self.now.edge_keys) result.now.updates ≡ events_of (base_of self.now) (EdgeNamed (edge_name self.now.nodes self.now.layers (parts_at self.now.edges e.0))) }
-        ensures fits { Fits (EdgeNamed (edge_name self.now.nodes self.now.layers (parts_at self.now.edges e.0))) result.now.updates }
-        ensures keys { AreNamed (key_name self.now.edge_keys) (length self.now.edge_keys) result.now.updates }
+        ensures told { let parts = parts_at self.now.edges e.0 in
+            let edge = EdgeNamed (edge_name self.now.nodes self.now.layers parts) in
+            events_told edge (key_name self.now.edge_keys) result.now.updates
+            ≡ events_of (base_of self.now) edge }
+        ensures fits { let parts = parts_at self.now.edges e.0 in
+            Fits (EdgeNamed (edge_name self.now.nodes self.now.layers parts)) result.now.updates }
+        ensures keys { AreNamed (key_name self.now.edge_keys) (length self.now.edge_keys)
+            result.now.updates }
         ensures within { AreWithin self.now.bounds result.now.updates }
         ensures allowed { IsAllowed self.now.model result.now.updates }
-        ensures whole { IsTaken self.now.model self.now.bounds result.now.updates (span_of_all result.now.updates) }
+        ensures whole { IsTaken self.now.model self.now.bounds result.now.updates
+            (span_of_all result.now.updates) }
     {
         let _keys = self.edge_keys.len();
         &self.edge_histories[e.0 as usize]
@@ -403,7 +430,8 @@ impl Store {
 
     /// How many events, nodes, layers, keys and names of types there would be with an event more.
     fn totals_with(&self, event: &Event) -> Totals
-        ensures { (counted : Quantity) → total_of result counted ≡ count_of counted (self.now.accepted ++ event.now ∷ []) self.now.types }
+        ensures { (counted : Quantity) → total_of result counted
+            ≡ count_of counted (self.now.accepted ++ event.now ∷ []) self.now.types }
     {
         let events = self.events + 1;
         let layers = self.layers.len();
@@ -442,7 +470,8 @@ impl Store {
     /// The types of the first value, by the bytes of its key, that has another type than its key
     /// keeps: the type that is kept, and the one that is given.
     fn clash_with(&self, event: &Event) -> Option<(ValueType, ValueType)>
-        ensures { MatchOption result (mistyped self.now.accepted event.now ≡ None) (IsMistyped self.now.accepted event.now) }
+        ensures { MatchOption result (mistyped self.now.accepted event.now ≡ None)
+            (IsMistyped self.now.accepted event.now) }
     {
         match &event.what {
             What::Node(_, props) => self.node_keys.clash(props),
@@ -453,7 +482,8 @@ impl Store {
 
     /// Whether there is room within the limits whatever the event names. No name is looked up for it.
     fn has_room(&self, event: &Event) -> bool
-        ensures { IsTrue result → passed_limit (self.now.accepted ++ event.now ∷ []) self.now.types ≡ None }
+        ensures { IsTrue result
+            → passed_limit (self.now.accepted ++ event.now ∷ []) self.now.types ≡ None }
     {
         let totals = Totals {
             events: self.events,
@@ -468,7 +498,9 @@ impl Store {
 
     /// Why an event is refused, if it is.
     fn refusal_of(&self, event: &Event) -> Option<StoreRefusal>
-        ensures { MatchOption result (event_refusal self.now.model self.now.accepted self.now.types event.now ≡ None) (IsRefusal self.now.model self.now.accepted self.now.types event.now) }
+        ensures { MatchOption result
+            (event_refusal self.now.model self.now.accepted self.now.types event.now ≡ None)
+            (IsRefusal self.now.model self.now.accepted self.now.types event.now) }
     {
         if !is_allowed(self.model, event) {
             return Some(StoreRefusal::Deletion);
@@ -487,7 +519,9 @@ impl Store {
 
     /// Why an event is refused, if it is. There is room for one that is not.
     fn judge(&self, event: &Event) -> Option<StoreRefusal>
-        ensures refusal { MatchOption result (event_refusal self.now.model self.now.accepted self.now.types event.now ≡ None) (IsRefusal self.now.model self.now.accepted self.now.types event.now) }
+        ensures refusal { MatchOption result
+            (event_refusal self.now.model self.now.accepted self.now.types event.now ≡ None)
+            (IsRefusal self.now.model self.now.accepted self.now.types event.now) }
         ensures room { IfNone result (HasRoom self.now (with_event self.now event.now)) }
     {
         let _nodes = self.nodes.len();
@@ -532,13 +566,15 @@ impl Store {
         requires inside { IsTrue (is_inside self.old.bounds event.time) }
 
         ensures ok { OnOk result (self.new ≡ with_event self.old event) }
-        ensures accepted { OnOk result (event_refusal self.old.model self.old.accepted self.old.types event ≡ None) }
+        ensures accepted { OnOk result
+            (event_refusal self.old.model self.old.accepted self.old.types event ≡ None) }
         ensures events { OnOk result (self.new.accepted ≡ self.old.accepted ++ event ∷ []) }
         ensures model { self.new.model ≡ self.old.model }
         ensures bounds { self.new.bounds ≡ self.old.bounds }
         ensures types { self.new.types ≡ self.old.types }
 
-        ensures refused { IfErr result (IsRefusal self.old.model self.old.accepted self.old.types event) }
+        ensures refused { IfErr result
+            (IsRefusal self.old.model self.old.accepted self.old.types event) }
         ensures err { OnErr result (self.new ≡ self.old) }
 
         ensures cost { steps.new ≤ steps.old + (digits (length self.old.accepted) + 1) }
@@ -563,9 +599,9 @@ impl Store {
         props: &Props,
         steps: &mut Steps<L>,
     ) -> Result<(), Memory>
-        requires few_events { length self.old.accepted < 4194304 }
-        requires few_nodes { length (insert_key same_name self.old.nodes name) ≤ 1048576 }
-        requires few_keys { length (with_keys self.old.node_keys props.now) ≤ 256 }
+        requires few_events { length self.old.accepted < most_events }
+        requires few_nodes { length (insert_key same_name self.old.nodes name) ≤ most_nodes }
+        requires few_keys { length (with_keys self.old.node_keys props.now) ≤ most_keys }
         requires inside { IsTrue (is_inside self.old.bounds time) }
         requires typed { mistyped self.old.accepted (node_event time order name props.now) ≡ None }
         ensures ok { OnOk result (self.new ≡ with_node_event self.old time order name props.now) }
@@ -604,16 +640,20 @@ impl Store {
         props: &Props,
         steps: &mut Steps<L>,
     ) -> Result<(), Memory>
-        requires few_events { length self.old.accepted < 4194304 }
-        requires few_nodes { length (with_ends self.old.nodes edge) ≤ 1048576 }
-        requires few_layers { length (insert_key same_name self.old.layers edge.layer) ≤ 64 }
-        requires few_keys { length (with_keys self.old.edge_keys props.now) ≤ 256 }
+        requires few_events { length self.old.accepted < most_events }
+        requires few_nodes { length (with_ends self.old.nodes edge) ≤ most_nodes }
+        requires few_layers { length (insert_key same_name self.old.layers edge.layer)
+            ≤ most_layers }
+        requires few_keys { length (with_keys self.old.edge_keys props.now) ≤ most_keys }
         requires inside { IsTrue (is_inside self.old.bounds time) }
-        requires allowed { IsTrue (allows self.old.model (edge_event time order kind edge props.now)) }
-        requires typed { mistyped self.old.accepted (edge_event time order kind edge props.now) ≡ None }
+        requires allowed { IsTrue
+            (allows self.old.model (edge_event time order kind edge props.now)) }
+        requires typed { mistyped self.old.accepted (edge_event time order kind edge props.now)
+            ≡ None }
         requires kind { is_node kind ≡ false }
         requires deletion { is_delete kind ≡ true → props.now ≡ [] }
-        ensures ok { OnOk result (self.new ≡ with_edge_event self.old (edge_event time order kind edge props.now) edge props.now) }
+        ensures ok { OnOk result (self.new
+            ≡ with_edge_event self.old (edge_event time order kind edge props.now) edge props.now) }
         ensures err { OnErr result (self.new ≡ self.old) }
         ensures cost { steps.new ≤ steps.old + (digits (length self.old.accepted) + 1) }
     {
@@ -644,7 +684,8 @@ impl Store {
 
     /// The number of the type of a node, by the node's name.
     fn kind_of(&self, node: &Name) -> Option<u32>
-        ensures kind { option_map (name_at self.now.kinds) result ≡ type_of self.now.types node.now }
+        ensures kind { option_map (name_at self.now.kinds) result
+            ≡ type_of self.now.types node.now }
         ensures within { IfSome result (λ kind. kind < length self.now.kinds) }
     {
         match self.nodes.find(node) {
@@ -656,7 +697,8 @@ impl Store {
     /// The number of the type of a node, where it has another one than this.
     fn other_type(&self, node: &Name, kind: &Name) -> Option<u32>
         ensures other { is_some result ≡ is_other_type self.now.types node.now kind.now }
-        ensures kept { IfSome result (λ kept. slice_get self.now.kinds kept ≡ type_of self.now.types node.now) }
+        ensures kept { IfSome result (λ kept. slice_get self.now.kinds kept
+            ≡ type_of self.now.types node.now) }
     {
         let kept = self.kind_of(node)?;
         if *self.kinds.name_of(kept) == *kind {
@@ -668,10 +710,12 @@ impl Store {
 
     /// How many events, nodes, layers, keys and names of types there would be with a type more.
     fn totals_with_type(&self, node: &Name, kind: &Name) -> Totals
-        ensures totals { (counted : Quantity) → total_of result counted ≡ count_of counted self.now.accepted (self.now.types ++ (node.now, kind.now) ∷ []) }
+        ensures totals { (counted : Quantity) → total_of result counted
+            ≡ count_of counted self.now.accepted (self.now.types ++ (node.now, kind.now) ∷ []) }
         ensures nodes { result.nodes ≡ length (insert_key same_name self.now.nodes node.now) }
         ensures types { result.types ≡ length (insert_key same_name self.now.kinds kind.now) }
-        ensures again { type_of self.now.types node.now ≡ Some kind.now → find (is_above result) all_quantities ≡ None }
+        ensures again { type_of self.now.types node.now ≡ Some kind.now
+            → find (is_above result) all_quantities ≡ None }
     {
         let _node_limit = self.nodes.len();
         let _kind_limit = self.kinds.len();
@@ -687,9 +731,13 @@ impl Store {
 
     /// Why the type of a node is refused, if it is.
     fn type_refusal_of(&self, node: &Name, kind: &Name) -> Option<StoreRefusal>
-        ensures refusal { MatchOption result (type_refusal self.now.accepted self.now.types node.now kind.now ≡ None) (IsTypeRefusal self.now node.now kind.now) }
-        ensures few_nodes { IfNone result (length (insert_key same_name self.now.nodes node.now) ≤ 1048576) }
-        ensures few_kinds { IfNone result (length (insert_key same_name self.now.kinds kind.now) ≤ 4096) }
+        ensures refusal { MatchOption result
+            (type_refusal self.now.accepted self.now.types node.now kind.now ≡ None)
+            (IsTypeRefusal self.now node.now kind.now) }
+        ensures few_nodes { IfNone result
+            (length (insert_key same_name self.now.nodes node.now) ≤ most_nodes) }
+        ensures few_kinds { IfNone result
+            (length (insert_key same_name self.now.kinds kind.now) ≤ most_types) }
         ensures again { type_of self.now.types node.now ≡ Some kind.now → result ≡ None }
     {
         if let Some(kept) = self.other_type(node, kind) {
@@ -703,15 +751,19 @@ impl Store {
 
     /// Gives a node, which has none, a type. There is room within the limits.
     fn add_type(&mut self, node: Name, kind: Name) -> Result<(), Memory>
-        requires few_nodes { length (insert_key same_name self.old.nodes node) ≤ 1048576 }
-        requires few_kinds { length (insert_key same_name self.old.kinds kind) ≤ 4096 }
+        requires few_nodes { length (insert_key same_name self.old.nodes node) ≤ most_nodes }
+        requires few_kinds { length (insert_key same_name self.old.kinds kind) ≤ most_types }
         requires absent { type_of self.old.types node ≡ None }
         ensures ok { OnOk result (self.new ≡ with_type self.old node kind) }
         ensures err { OnErr result (self.new ≡ self.old) }
     {
-        self.nodes.reserve(1)?;
-        self.links.reserve(1, 0)?;
-        self.node_histories.reserve(1)?;
+        reserve_nodes(
+            &mut self.nodes,
+            &mut self.links,
+            &mut self.node_histories,
+            1,
+            0,
+        )?;
         self.kinds.reserve(1)?;
         self.types.reserve(1)?;
         let number = number_node(
@@ -730,7 +782,8 @@ impl Store {
     /// nothing and takes no memory. `Retype` has the number of the type that the node has.
     pub fn set_type(&mut self, node: Name, kind: Name) -> Result<(), StoreRefusal>
         ensures ok { OnOk result (self.new ≡ with_type self.old node kind) }
-        ensures accepted { OnOk result (type_refusal self.old.accepted self.old.types node kind ≡ None) }
+        ensures accepted { OnOk result
+            (type_refusal self.old.accepted self.old.types node kind ≡ None) }
         ensures refused { IfErr result (IsTypeRefusal self.old node kind) }
         ensures err { OnErr result (self.new ≡ self.old) }
 

@@ -2,6 +2,7 @@
 ghost use Rattle.std.specs.Prelude.{◌≡◌, ℕ, List, ◌+◌, ◌-◌, ◌^◌, ◌<◌, ◌≤◌, true, is_some, position, length, vec_len, OnOk, OnErr};
 ghost use Rattle.indexmap.specs.IndexSet.{insert_key};
 ghost use Rattle.graph_model.specs.declared.properties.Value.{Value as GraphValue};
+ghost use Rattle.graph_model.specs.Limits.{most_layers};
 ghost use Rattle.graph_model.specs.Names.{same_name};
 ghost use Rattle.graph_model.specs.Searches.{digits};
 ghost use Rattle.graph_store.specs.Telling.{updates_of_number};
@@ -60,21 +61,27 @@ fn file_numbered<L: Ledger>(
     steps: &mut Steps<L>,
 ) -> Result<(), Memory>
     requires keys { length keys.now < 2 ^ 32 }
-    requires known { (i : ℕ) → i < length props.now → is_some (type_in keys.now (prop_at props.now i).0) ≡ true }
+    requires known { (i : ℕ) → i < length props.now
+        → is_some (type_in keys.now (prop_at props.now i).0) ≡ true }
     requires linked { links.old.nodes ≡ length nodes.old.names }
     requires lengths { vec_len histories.old ≡ length nodes.old.names }
     requires few { length (insert_key same_name nodes.old.names name) ≤ nodes.old.limit }
     requires fewer { length nodes.old.names < 2 ^ 32 - 1 }
-    requires next { (values : List (ℕ × GraphValue)) (i : ℕ) → i < vec_len histories.old → ArrivesNext (update_of arrival values) (updates_of_number (updates_in histories.old.items) i) }
+    requires next { (values : List (ℕ × GraphValue)) (i : ℕ) → i < vec_len histories.old
+        → ArrivesNext (update_of arrival values)
+        (updates_of_number (updates_in histories.old.items) i) }
     requires early { arrival.number < 2 ^ 32 - 1 }
     ensures limit { nodes.new.limit ≡ nodes.old.limit }
     ensures edges { links.new.edges ≡ links.old.edges }
     ensures pairs { links.new.pairs ≡ links.old.pairs }
     ensures linked { links.new.nodes ≡ length nodes.new.names }
     ensures names { OnOk result (nodes.new.names ≡ insert_key same_name nodes.old.names name) }
-    ensures taken { OnOk result (TakeUpdate keys.now props.now arrival (position (same_name name) nodes.old.names) (updates_in histories.old.items) (updates_in histories.new.items)) }
+    ensures taken { let found = position (same_name name) nodes.old.names in
+        OnOk result (TakeUpdate keys.now props.now arrival found
+        (updates_in histories.old.items) (updates_in histories.new.items)) }
     ensures err_names { OnErr result (nodes.new.names ≡ nodes.old.names) }
-    ensures err_filed { OnErr result (updates_in histories.new.items ≡ updates_in histories.old.items) }
+    ensures err_filed { OnErr result (updates_in histories.new.items
+        ≡ updates_in histories.old.items) }
     ensures cost { steps.new ≤ steps.old + (digits arrival.number + 1) }
 {
     let values = keys.number(alloc, props)?;
@@ -106,7 +113,9 @@ pub fn take_node<L: Ledger>(
     requires lengths { vec_len histories.old ≡ length nodes.old.names }
     requires few { length (insert_key same_name nodes.old.names name) ≤ nodes.old.limit }
     requires fewer { length nodes.old.names < 2 ^ 32 - 1 }
-    requires next { (values : List (ℕ × GraphValue)) (i : ℕ) → i < vec_len histories.old → ArrivesNext (update_of arrival values) (updates_of_number (updates_in histories.old.items) i) }
+    requires next { (values : List (ℕ × GraphValue)) (i : ℕ) → i < vec_len histories.old
+        → ArrivesNext (update_of arrival values)
+        (updates_of_number (updates_in histories.old.items) i) }
     requires early { arrival.number < 2 ^ 32 - 1 }
     ensures limit { nodes.new.limit ≡ nodes.old.limit }
     ensures edges { links.new.edges ≡ links.old.edges }
@@ -114,10 +123,13 @@ pub fn take_node<L: Ledger>(
     ensures linked { links.new.nodes ≡ length nodes.new.names }
     ensures keys { OnOk result (keys.new ≡ with_keys keys.old props.now) }
     ensures names { OnOk result (nodes.new.names ≡ insert_key same_name nodes.old.names name) }
-    ensures taken { OnOk result (TakeUpdate (with_keys keys.old props.now) props.now arrival (position (same_name name) nodes.old.names) (updates_in histories.old.items) (updates_in histories.new.items)) }
+    ensures taken { let found = position (same_name name) nodes.old.names in
+        OnOk result (TakeUpdate (with_keys keys.old props.now) props.now arrival found
+        (updates_in histories.old.items) (updates_in histories.new.items)) }
     ensures err_keys { OnErr result (keys.new ≡ keys.old) }
     ensures err_names { OnErr result (nodes.new.names ≡ nodes.old.names) }
-    ensures err_filed { OnErr result (updates_in histories.new.items ≡ updates_in histories.old.items) }
+    ensures err_filed { OnErr result (updates_in histories.new.items
+        ≡ updates_in histories.old.items) }
     ensures cost { steps.new ≤ steps.old + (digits arrival.number + 1) }
 {
     let known = keys.count();
@@ -146,31 +158,47 @@ fn file_numbered_edge<L: Ledger>(
     steps: &mut Steps<L>,
 ) -> Result<(), Memory>
     requires keys { length keys.now < 2 ^ 32 }
-    requires known { (i : ℕ) → i < length props.now → is_some (type_in keys.now (prop_at props.now i).0) ≡ true }
+    requires known { (i : ℕ) → i < length props.now
+        → is_some (type_in keys.now (prop_at props.now i).0) ≡ true }
     requires linked { links.old.nodes ≡ length nodes.old.names }
     requires few { length (with_ends nodes.old.names edge) ≤ nodes.old.limit }
     requires fewer { length nodes.old.names < 2 ^ 32 - 2 }
-    requires few_layers { length (insert_key same_name layers.old.names edge.layer) ≤ layers.old.limit }
-    requires layer_limit { layers.old.limit ≡ 64 }
-    requires within { (e : ℕ) → e < length links.old.edges → ((parts_at links.old.edges e).src < length nodes.old.names) × ((parts_at links.old.edges e).dst < length nodes.old.names) × ((parts_at links.old.edges e).layer < length layers.old.names) }
+    requires few_layers { length (insert_key same_name layers.old.names edge.layer)
+        ≤ layers.old.limit }
+    requires layer_limit { layers.old.limit ≡ most_layers }
+    requires within { (e : ℕ) → e < length links.old.edges
+        → ((parts_at links.old.edges e).src < length nodes.old.names)
+        × ((parts_at links.old.edges e).dst < length nodes.old.names)
+        × ((parts_at links.old.edges e).layer < length layers.old.names) }
     requires lengths { vec_len edge_histories.old ≡ length links.old.edges }
     requires few_edges { length links.old.edges < 2 ^ 32 - 1 }
-    requires next { (values : List (ℕ × GraphValue)) (i : ℕ) → i < vec_len edge_histories.old → ArrivesNext (update_of arrival values) (updates_of_number (updates_in edge_histories.old.items) i) }
+    requires next { (values : List (ℕ × GraphValue)) (i : ℕ) → i < vec_len edge_histories.old
+        → ArrivesNext (update_of arrival values)
+        (updates_of_number (updates_in edge_histories.old.items) i) }
     requires early { arrival.number < 2 ^ 32 - 1 }
     ensures limit { nodes.new.limit ≡ nodes.old.limit }
     ensures layer_limit { layers.new.limit ≡ layers.old.limit }
     ensures linked { links.new.nodes ≡ length nodes.new.names }
     ensures names { OnOk result (nodes.new.names ≡ with_ends nodes.old.names edge) }
-    ensures layers { OnOk result (layers.new.names ≡ insert_key same_name layers.old.names edge.layer) }
-    ensures nodes_filed { OnOk result (updates_in node_histories.new.items ≡ with_end_histories nodes.old.names edge (updates_in node_histories.old.items)) }
-    ensures edges { OnOk result (HasEdge (position (same_entity (EdgeNamed edge)) (edge_entities nodes.old.names layers.old.names links.old.edges)) nodes.new.names layers.new.names edge links.old links.new) }
-    ensures taken { OnOk result (TakeUpdate keys.now props.now arrival (position (same_entity (EdgeNamed edge)) (edge_entities nodes.old.names layers.old.names links.old.edges)) (updates_in edge_histories.old.items) (updates_in edge_histories.new.items)) }
+    ensures layers { OnOk result (layers.new.names
+        ≡ insert_key same_name layers.old.names edge.layer) }
+    ensures nodes_filed { OnOk result (updates_in node_histories.new.items
+        ≡ with_end_histories nodes.old.names edge (updates_in node_histories.old.items)) }
+    ensures edges { let found = position (same_entity (EdgeNamed edge))
+        (edge_entities nodes.old.names layers.old.names links.old.edges) in
+        OnOk result (HasEdge found nodes.new.names layers.new.names edge links.old links.new) }
+    ensures taken { let found = position (same_entity (EdgeNamed edge))
+        (edge_entities nodes.old.names layers.old.names links.old.edges) in
+        OnOk result (TakeUpdate keys.now props.now arrival found
+        (updates_in edge_histories.old.items) (updates_in edge_histories.new.items)) }
     ensures err_names { OnErr result (nodes.new.names ≡ nodes.old.names) }
     ensures err_layers { OnErr result (layers.new.names ≡ layers.old.names) }
     ensures err_edges { OnErr result (links.new.edges ≡ links.old.edges) }
     ensures err_pairs { OnErr result (links.new.pairs ≡ links.old.pairs) }
-    ensures err_nodes_filed { OnErr result (updates_in node_histories.new.items ≡ updates_in node_histories.old.items) }
-    ensures err_filed { OnErr result (updates_in edge_histories.new.items ≡ updates_in edge_histories.old.items) }
+    ensures err_nodes_filed { OnErr result (updates_in node_histories.new.items
+        ≡ updates_in node_histories.old.items) }
+    ensures err_filed { OnErr result (updates_in edge_histories.new.items
+        ≡ updates_in edge_histories.old.items) }
     ensures cost { steps.new ≤ steps.old + (digits arrival.number + 1) }
 {
     let values = keys.number(alloc, props)?;
@@ -206,27 +234,42 @@ pub fn take_edge<L: Ledger>(
     requires linked { links.old.nodes ≡ length nodes.old.names }
     requires few { length (with_ends nodes.old.names edge) ≤ nodes.old.limit }
     requires fewer { length nodes.old.names < 2 ^ 32 - 2 }
-    requires few_layers { length (insert_key same_name layers.old.names edge.layer) ≤ layers.old.limit }
-    requires layer_limit { layers.old.limit ≡ 64 }
-    requires within { (e : ℕ) → e < length links.old.edges → ((parts_at links.old.edges e).src < length nodes.old.names) × ((parts_at links.old.edges e).dst < length nodes.old.names) × ((parts_at links.old.edges e).layer < length layers.old.names) }
+    requires few_layers { length (insert_key same_name layers.old.names edge.layer)
+        ≤ layers.old.limit }
+    requires layer_limit { layers.old.limit ≡ most_layers }
+    requires within { (e : ℕ) → e < length links.old.edges
+        → ((parts_at links.old.edges e).src < length nodes.old.names)
+        × ((parts_at links.old.edges e).dst < length nodes.old.names)
+        × ((parts_at links.old.edges e).layer < length layers.old.names) }
     requires lengths { vec_len edge_histories.old ≡ length links.old.edges }
     requires few_edges { length links.old.edges < 2 ^ 32 - 1 }
-    requires next { (values : List (ℕ × GraphValue)) (i : ℕ) → i < vec_len edge_histories.old → ArrivesNext (update_of arrival values) (updates_of_number (updates_in edge_histories.old.items) i) }
+    requires next { (values : List (ℕ × GraphValue)) (i : ℕ) → i < vec_len edge_histories.old
+        → ArrivesNext (update_of arrival values)
+        (updates_of_number (updates_in edge_histories.old.items) i) }
     requires early { arrival.number < 2 ^ 32 - 1 }
     ensures limit { nodes.new.limit ≡ nodes.old.limit }
     ensures layer_limit { layers.new.limit ≡ layers.old.limit }
     ensures linked { links.new.nodes ≡ length nodes.new.names }
     ensures names { OnOk result (nodes.new.names ≡ with_ends nodes.old.names edge) }
-    ensures layers { OnOk result (layers.new.names ≡ insert_key same_name layers.old.names edge.layer) }
-    ensures nodes_filed { OnOk result (updates_in node_histories.new.items ≡ with_end_histories nodes.old.names edge (updates_in node_histories.old.items)) }
-    ensures edges { OnOk result (HasEdge (position (same_entity (EdgeNamed edge)) (edge_entities nodes.old.names layers.old.names links.old.edges)) nodes.new.names layers.new.names edge links.old links.new) }
-    ensures taken { OnOk result (TakeUpdate (with_keys keys.old props.now) props.now arrival (position (same_entity (EdgeNamed edge)) (edge_entities nodes.old.names layers.old.names links.old.edges)) (updates_in edge_histories.old.items) (updates_in edge_histories.new.items)) }
+    ensures layers { OnOk result (layers.new.names
+        ≡ insert_key same_name layers.old.names edge.layer) }
+    ensures nodes_filed { OnOk result (updates_in node_histories.new.items
+        ≡ with_end_histories nodes.old.names edge (updates_in node_histories.old.items)) }
+    ensures edges { let found = position (same_entity (EdgeNamed edge))
+        (edge_entities nodes.old.names layers.old.names links.old.edges) in
+        OnOk result (HasEdge found nodes.new.names layers.new.names edge links.old links.new) }
+    ensures taken { let found = position (same_entity (EdgeNamed edge))
+        (edge_entities nodes.old.names layers.old.names links.old.edges) in
+        OnOk result (TakeUpdate (with_keys keys.old props.now) props.now arrival found
+        (updates_in edge_histories.old.items) (updates_in edge_histories.new.items)) }
     ensures err_names { OnErr result (nodes.new.names ≡ nodes.old.names) }
     ensures err_layers { OnErr result (layers.new.names ≡ layers.old.names) }
     ensures err_edges { OnErr result (links.new.edges ≡ links.old.edges) }
     ensures err_pairs { OnErr result (links.new.pairs ≡ links.old.pairs) }
-    ensures err_nodes_filed { OnErr result (updates_in node_histories.new.items ≡ updates_in node_histories.old.items) }
-    ensures err_filed { OnErr result (updates_in edge_histories.new.items ≡ updates_in edge_histories.old.items) }
+    ensures err_nodes_filed { OnErr result (updates_in node_histories.new.items
+        ≡ updates_in node_histories.old.items) }
+    ensures err_filed { OnErr result (updates_in edge_histories.new.items
+        ≡ updates_in edge_histories.old.items) }
     ensures cost { steps.new ≤ steps.old + (digits arrival.number + 1) }
     ensures keys { OnOk result (keys.new ≡ with_keys keys.old props.now) }
     ensures err_keys { OnErr result (keys.new ≡ keys.old) }

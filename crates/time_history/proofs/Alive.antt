@@ -1,10 +1,10 @@
 -- When the edge of a span is alive.
-use Rattle.std.proofs.Common.{◌≡◌, ◌≢◌, ℕ, ◌+◌, ◌-◌, ◌<◌, ◌≤◌, ◌⊎◌, ℤ, ◌≤ℤ◌, ◌<ℤ◌, Bool, true, false, not, ◌&&◌, ◌||◌, List, [], ◌∷◌, ◌++◌, Option, Some, None, map, cond, length, get_or, take, drop, slice_range, nat_lt, refl, sym, ◌∙◌, ap, subst, arith, inl, inr, append-nil, append_assoc}
+use Rattle.std.proofs.Common.{◌≡◌, ◌≢◌, ℕ, ◌+◌, ◌-◌, ◌<◌, ◌≤◌, ℤ, ◌≤ℤ◌, ◌<ℤ◌, Bool, true, false, not, ◌&&◌, ◌||◌, List, [], ◌∷◌, ◌++◌, Option, Some, None, map, cond, length, get_or, take, drop, slice_range, nat_lt, refl, sym, ◌∙◌, ap, subst, arith, inl, inr, append-nil, append_assoc}
 use Rattle.std.specs.Prelude.{int_le}
 use Rattle.std.specs.Option.{option_map_or}
 use Rattle.std.specs.List.{AllByRecursion, filter, list_any, last_or}
 use Rattle.std.specs.Ordering.{int_eq}
-use Rattle.std.proofs.lemmas.Bool.{cond-false, true≢false}
+use Rattle.std.proofs.lemmas.Bool.{and_parts, and_right, cases_lt, cond-false, not-true, or_right, true≢false}
 use Rattle.std.proofs.lemmas.Bool.Decides.{nat_tests}
 use Rattle.std.proofs.lemmas.Int.{ints}
 use Rattle.std.proofs.lemmas.List.{take-map, take_more, drop_more, get_or-map, length-map}
@@ -35,8 +35,9 @@ use Rattle.time_history.specs.Updates.{update_at, no_update, TimesRise}
 use Rattle.time_history.specs.Telling.{event_told, events_told, what_told, with_key_names, Fits}
 use Rattle.time_history.specs.Asked.{HappensAt, IsAliveAt}
 use Rattle.time_history.specs.Spans.{carries, IsSpan, IsTaken, IsAllowed, spelled}
-use Rattle.time_history.proofs.Segments.{slice_split, slice_nothing, slice_map, each_in_slice, each_in_map}
+use Rattle.time_history.proofs.Segments.{slice_split, slice_nothing, slice_map, each_in_slice, each_in_map, each_in_time}
 use Rattle.world_laws.proofs.Nested.{carried_times}
+use Rattle.world_laws.proofs.Named.{none_pass}
 
 -- an update of an edge is an addition where it is no deletion
 pub adds-told : (edge : EdgeName) (kind : Kind) (ps : List (List ℕ × Value)) → adds (what_told (Edge edge) kind ps) ≡ not (is_delete kind)
@@ -52,23 +53,11 @@ last_of o (y ∷ xs) x = last_of (Some y) xs x
 ends-push : (xs : List Event) (x : Event) → ends_in_addition (xs ++ x ∷ []) ≡ is_addition x
 ends-push xs x = ap (λ o. option_map_or is_addition o false) (last_of None xs x)
 
-pub none_any : {X : Type 0} (p : X → Bool) (xs : List X) → AllByRecursion (λ x. p x ≡ false) xs → list_any p xs ≡ false
-none_any p [] h = refl
-none_any p (x ∷ xs) h = ap (λ b. b || list_any p xs) h.0 ∙ none_any p xs h.1
-
-or_true : (b : Bool) → (b || true) ≡ true
-or_true true = refl
-or_true false = refl
-
 pub int_eq-refl : (a b : ℤ) → a ≡ b → int_eq a b ≡ true
 int_eq-refl a b h = grind (arith, ints)
 
 int_eq-apart : (a b : ℤ) → a ≢ b → int_eq a b ≡ false
 int_eq-apart a b h = grind (arith, ints)
-
-and_false : (b : Bool) → (b && false) ≡ false
-and_false true = refl
-and_false false = refl
 
 adds-edge : {edge : EdgeName} (e : Entity) (ps : List (List ℕ × Value)) → e ≡ Edge edge → adds (update_of e ps) ≡ true
 adds-edge (Node name) ps h = cc
@@ -95,12 +84,12 @@ module _ (edge : EdgeName) (names : ℕ → List ℕ) (us : List Update) where
       let x = event_told (Edge edge) names (update_at us k) in
       ap (list_any p) (slice_split events a (k + 1) b (omega arith) (omega arith) ∙ ap (λ ys. ys ++ slice_range events (k + 1) b) (slice_push a k low (omega arith)))
       ∙ (list_any-append p (slice_range events a k ++ x ∷ []) (slice_range events (k + 1) b)
-      ∙ ap (λ t. t || list_any p (slice_range events (k + 1) b)) (list_any-append p (slice_range events a k) (x ∷ []) ∙ (ap (λ t. list_any p (slice_range events a k) || (t || false)) h ∙ or_true (list_any p (slice_range events a k)))))
+      ∙ ap (λ t. t || list_any p (slice_range events (k + 1) b)) (list_any-append p (slice_range events a k) (x ∷ []) ∙ (ap (λ t. list_any p (slice_range events a k) || (t || false)) h ∙ or_right (list_any p (slice_range events a k)) true refl)))
 
   none_at : (p : Event → Bool) (a b : ℕ) → b ≤ length us → ((k : ℕ) → a ≤ k → k < b → p (event_told (Edge edge) names (update_at us k)) ≡ false) → list_any p (slice_range (events_told (Edge edge) names us) a b) ≡ false
   none_at p a b le h =
       ap (list_any p) (slice_map (event_told (Edge edge) names) us a b)
-      ∙ none_any p (map (event_told (Edge edge) names) (slice_range us a b)) (each_in_map (event_told (Edge edge) names) (λ u. p (event_told (Edge edge) names u) ≡ false) (λ x. p x ≡ false) (λ u e. e) (slice_range us a b) (each_in_slice (λ u. p (event_told (Edge edge) names u) ≡ false) us a b le h))
+      ∙ none_pass p (map (event_told (Edge edge) names) (slice_range us a b)) (each_in_map (event_told (Edge edge) names) (λ u. p (event_told (Edge edge) names u) ≡ false) (λ x. p x ≡ false) (λ u e. e) (slice_range us a b) (each_in_slice (λ u. p (event_told (Edge edge) names u) ≡ false) us a b le h))
 
   added_at : ℤ → Event → Bool
   added_at m x = is_addition x && int_eq x.time m
@@ -119,7 +108,7 @@ module _ (edge : EdgeName) (names : ℕ → List ℕ) (us : List Update) where
   alive_instants span bounds m false s none c h =
       let events = events_told (Edge edge) names us in
       sym (ap (λ b. list_any (λ x. is_addition x && int_eq x.time m) (cond b (carried_events bounds.lo (live_events (take span.from events))) [] ++ slice_range events span.from span.to)) c
-      ∙ none_at (λ x. is_addition x && int_eq x.time m) span.from span.to s.end (λ k a b. ap (λ t. is_addition (event_told (Edge edge) names (update_at us k)) && t) (int_eq-apart (update_at us k).time m (h k a b)) ∙ and_false (is_addition (event_told (Edge edge) names (update_at us k)))))
+      ∙ none_at (λ x. is_addition x && int_eq x.time m) span.from span.to s.end (λ k a b. ap (λ t. is_addition (event_told (Edge edge) names (update_at us k)) && t) (int_eq-apart (update_at us k).time m (h k a b)) ∙ and_right (is_addition (event_told (Edge edge) names (update_at us k))) false refl))
 
   -- what is carried for an edge is an addition
   carried_adds : (lo : ℤ) (xs : List Event) (x : Event) → AllByRecursion (λ y. entity_of y ≡ Edge edge) (xs ++ x ∷ []) → ends_in_addition (carried_events lo (xs ++ x ∷ [])) ≡ true
@@ -135,16 +124,13 @@ module _ (edge : EdgeName) (names : ℕ → List ℕ) (us : List Update) where
   all_told [] = tt
   all_told (v ∷ vs) = (told_entity v.kind (with_key_names names v.props), all_told vs)
 
-  none_or_some : (n : ℕ) → (n ≡ 0) ⊎ (0 < n)
-  none_or_some n = grind arith
-
   -- where a span is carried, what comes before it ends with an addition
   pub carried_alive : (span : Span) (lo : ℤ) → IsSpan us span → Fits (Edge edge) us → (c : Bool) → c ≡ span.carried → ends_in_addition (cond c (carried_events lo (live_events (take span.from (events_told (Edge edge) names us)))) []) ≡ c
   carried_alive span lo s fit false e = refl
   carried_alive span lo s fit true e =
       let h : carries Persistent us span.from ≡ true = s.carried (sym e) in
-      let first : nat_lt 0 span.from ≡ true = and_first (nat_lt 0 span.from) (not (is_delete (update_at us (span.from - 1)).kind)) h in
-      let kept : is_delete (update_at us (span.from - 1)).kind ≡ false = and_second (nat_lt 0 span.from) (is_delete (update_at us (span.from - 1)).kind) h in
+      let first : nat_lt 0 span.from ≡ true = (and_parts (nat_lt 0 span.from) (not (is_delete (update_at us (span.from - 1)).kind)) h).0 in
+      let kept : is_delete (update_at us (span.from - 1)).kind ≡ false = not-true (is_delete (update_at us (span.from - 1)).kind) (and_parts (nat_lt 0 span.from) (not (is_delete (update_at us (span.from - 1)).kind)) h).1 in
       let lt : 0 < span.from = grind (arith, nat_tests) in
       let order = s.order in let end = s.end in
       let last : Event = event_told (Edge edge) names no_update in
@@ -162,15 +148,6 @@ module _ (edge : EdgeName) (names : ℕ → List ℕ) (us : List Update) where
       ∙ (ap (λ ys. ends_in_addition (carried_events lo ys)) still
       ∙ carried_adds lo (live_events front) x (subst (AllByRecursion (λ y. entity_of y ≡ Edge edge)) still (each_live (λ y. entity_of y ≡ Edge edge) (front ++ x ∷ []) (subst (AllByRecursion (λ y. entity_of y ≡ Edge edge)) (whole_told span.from ∙ whole) (all_told (take span.from us))))))
     where
-      and_first : (a b : Bool) → (a && b) ≡ true → a ≡ true
-      and_first true b h = refl
-      and_first false b h = cc
-
-      and_second : (a b : Bool) → (a && not b) ≡ true → b ≡ false
-      and_second true true h = cc
-      and_second true false h = refl
-      and_second false b h = cc
-
       deletes-edge : (kind : Kind) (ps : List (List ℕ × Value)) → deletes (what_told (Edge edge) kind ps) ≡ is_delete kind
       deletes-edge OfNode ps = refl
       deletes-edge Add ps = refl
@@ -189,9 +166,6 @@ module _ (edge : EdgeName) (names : ℕ → List ℕ) (us : List Update) where
     cs : List Event
     cs = cond span.carried (carried_events bounds.lo (live_events (take span.from (events_told (Edge edge) names us)))) []
 
-    each_in_time : (P : ℤ → Type 0) (a b : ℕ) → b ≤ length us → ((k : ℕ) → a ≤ k → k < b → P (update_at us k).time) → AllByRecursion (λ (x : Event). P x.time) (slice_range (events_told (Edge edge) names us) a b)
-    each_in_time P a b le h = subst (AllByRecursion (λ (x : Event). P x.time)) (sym (slice_map (event_told (Edge edge) names) us a b)) (each_in_map (event_told (Edge edge) names) (λ (u : Update). P u.time) (λ (x : Event). P x.time) (λ x p. p) (slice_range us a b) (each_in_slice (λ (u : Update). P u.time) us a b le h))
-
     -- what a span spells up to a moment
     up_to : filter (λ x. int_le x.time m) (spelled (Edge edge) names us span bounds.lo)
         ≡ cond span.carried (carried_events bounds.lo (live_events (take span.from (events_told (Edge edge) names us)))) [] ++ slice_range (events_told (Edge edge) names us) span.from at
@@ -202,8 +176,8 @@ module _ (edge : EdgeName) (names : ℕ → List ℕ) (us : List Update) where
         let end = s.end in
         let lo = inside_lo bounds m inside in
         let kept : filter p c ≡ c = filter_all p c (begins span.carried (live_events (take span.from events)) lo) in
-        let early : filter p (slice_range events span.from at) ≡ slice_range events span.from at = filter_all p (slice_range events span.from at) (each_weaker (λ x. x.time ≤ℤ m) (λ x. p x ≡ true) (λ x h. le_test x.time m h) (slice_range events span.from at) (each_in_time (λ t. t ≤ℤ m) span.from at (omega arith) before)) in
-        let late : filter p (slice_range events at span.to) ≡ [] = filter_none p (slice_range events at span.to) (each_weaker (λ x. m <ℤ x.time) (λ x. p x ≡ false) (λ x h. not_le_test x.time m h) (slice_range events at span.to) (each_in_time (λ t. m <ℤ t) at span.to end after)) in
+        let early : filter p (slice_range events span.from at) ≡ slice_range events span.from at = filter_all p (slice_range events span.from at) (each_weaker (λ x. x.time ≤ℤ m) (λ x. p x ≡ true) (λ x h. le_test x.time m h) (slice_range events span.from at) (each_in_time (Edge edge) names us (λ t. t ≤ℤ m) span.from at (omega arith) before)) in
+        let late : filter p (slice_range events at span.to) ≡ [] = filter_none p (slice_range events at span.to) (each_weaker (λ x. m <ℤ x.time) (λ x. p x ≡ false) (λ x h. not_le_test x.time m h) (slice_range events at span.to) (each_in_time (Edge edge) names us (λ t. m <ℤ t) at span.to end after)) in
         filter-append p c (slice_range events span.from span.to)
         ∙ (ap (λ ys. ys ++ filter p (slice_range events span.from span.to)) kept
         ∙ ap (λ ys. c ++ ys) (ap (filter p) (slice_split events span.from at span.to from to) ∙ (filter-append p (slice_range events span.from at) (slice_range events at span.to) ∙ (ap (λ ys. ys ++ filter p (slice_range events at span.to)) early ∙ (ap (λ ys. slice_range events span.from at ++ ys) late ∙ append-nil (slice_range events span.from at))))))
@@ -245,20 +219,18 @@ pub happens_is : (us : List Update) (span : Span) (m : ℤ) (at : ℕ) → IsSpa
     → ((k : ℕ) → span.from ≤ k → k < at → (update_at us k).time <ℤ m) → ((k : ℕ) → at ≤ k → k < span.to → m ≤ℤ (update_at us k).time) → TimesRise us
     → (r : Bool) → r ≡ int_eq (update_at us at).time m → HappensAt us span m r
 happens_is us span m at s from to before after rise true h = (at, from, to, int_eq-exact (update_at us at).time m (sym h))
-happens_is us span m at s from to before after rise false h = λ k a b e. elim (split k at) [
+happens_is us span m at s from to before after rise false h = λ k a b e. elim (cases_lt k at) [
   | inl lt ↦ let less = before k a lt in absurd (omega (arith, ints))
   | inr ge ↦ let end = s.end in let le = rise at k ge (omega arith) in let least = after at (omega arith) to in int_eq-differs (update_at us at).time m (sym h) (omega (arith, ints))
 ]
-  where
-    split : (k at : ℕ) → (k < at) ⊎ (at ≤ k)
-    split k at = grind arith
+
+-- in the event model nothing is carried
+pub uncarried : (bounds : Interval) (us : List Update) (span : Span) → IsTaken Instants bounds us span → span.carried ≡ false
+uncarried bounds us span (inl bare) = bare.1
+uncarried bounds us span (inr cut) = cut.carried
 
 -- in the event model an edge is alive where its span has an update
 pub alive_event : (model : Model) (bounds : Interval) (us : List Update) (span : Span) (m : ℤ) (r : Bool) → model ≡ Instants → IsSpan us span → IsTaken model bounds us span → IsAllowed model us → HappensAt us span m r
     → IsAliveAt model bounds us span m r
-alive_event Instants bounds us span m r e s t none h = λ edge names fit. alive_instants edge names us span bounds m r s none (uncarried t) h
-  where
-    uncarried : IsTaken Instants bounds us span → span.carried ≡ false
-    uncarried (inl bare) = bare.1
-    uncarried (inr cut) = cut.carried
+alive_event Instants bounds us span m r e s t none h = λ edge names fit. alive_instants edge names us span bounds m r s none (uncarried bounds us span t) h
 alive_event Persistent bounds us span m r e s t none h = cc

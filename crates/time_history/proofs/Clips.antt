@@ -1,7 +1,7 @@
 -- A span that a window cuts out of another.
-use Rattle.std.proofs.Common.{◌≡◌, ℕ, ◌+◌, ◌-◌, ◌<◌, ◌≤◌, ◌⊎◌, ℤ, ◌≤ℤ◌, ◌<ℤ◌, Bool, true, false, not, ◌&&◌, ◌||◌, List, [], ◌∷◌, ◌++◌, cond, length, get_or, take, slice_range, nat_lt, refl, sym, ◌∙◌, ap, subst, arith, inl, inr}
-use Rattle.std.specs.List.{AllByRecursion, list_any}
-use Rattle.std.proofs.lemmas.Bool.{cond-true}
+use Rattle.std.proofs.Common.{◌≡◌, ℕ, ◌+◌, ◌-◌, ◌<◌, ◌≤◌, ◌⊎◌, ℤ, ◌≤ℤ◌, ◌<ℤ◌, Bool, true, false, not, ◌&&◌, ◌||◌, List, [], ◌∷◌, ◌++◌, cond, length, get_or, take, slice_range, nat_lt, refl, sym, ◌∙◌, ap, arith, inl, inr}
+use Rattle.std.specs.List.{list_any}
+use Rattle.std.proofs.lemmas.Bool.{cases_lt, cond-true}
 use Rattle.std.proofs.lemmas.Bool.Decides.{nat_tests}
 use Rattle.std.proofs.lemmas.Int.{ints}
 use Rattle.std.proofs.lemmas.List.{take_more, get_or-map, length-map}
@@ -16,6 +16,7 @@ use Rattle.graph_model.specs.Entity.{is_deletion, deletes}
 use Rattle.graph_model.specs.Compare.{live_events}
 use Rattle.graph_model.specs.Window.{carried_events, clip_list}
 use Rattle.world_laws.proofs.Live.{live_events-append}
+use Rattle.world_laws.proofs.Kept.{clip_nothing}
 use Rattle.time_history.specs.declared.updates.Kind.{Kind}
 use Rattle.time_history.specs.declared.updates.Kind.TheVariants.{Node as OfNode, Add, Delete}
 use Rattle.time_history.specs.declared.updates.Update.{Update}
@@ -25,8 +26,9 @@ use Rattle.time_history.specs.Kinds.{is_delete}
 use Rattle.time_history.specs.Updates.{update_at, no_update}
 use Rattle.time_history.specs.Telling.{event_told, events_told, what_told, with_key_names, fits, Fits}
 use Rattle.time_history.specs.Spans.{carries, IsSpan, IsCut, spelled, IsClipped}
-use Rattle.time_history.proofs.Segments.{slice_split, take_split, slice_nothing, slice_map, each_in_slice, each_in_map}
+use Rattle.time_history.proofs.Segments.{slice_split, take_split, slice_nothing, each_in_time}
 use Rattle.time_history.proofs.Parts.{none_within, AreParts, instants_clip, persistent_clip}
+use Rattle.time_history.proofs.Places.{none_or_some}
 
 -- an event that is told is a deletion where its update is
 pub deletes-told : (entity : Entity) (kind : Kind) (ps : List (List ℕ × Value)) → fits entity kind ≡ true → deletes (what_told entity kind ps) ≡ is_delete kind
@@ -46,9 +48,6 @@ live_after_deletion xs x h =
     only : (b : Bool) → b ≡ true → (b || false) ≡ true
     only true h = refl
     only false h = cc
-
-none_or_some : (n : ℕ) → (n ≡ 0) ⊎ (0 < n)
-none_or_some n = grind arith
 
 second_false : (b : Bool) → (true && not b) ≡ false → b ≡ true
 second_false true h = refl
@@ -91,10 +90,6 @@ module _ (entity : Entity) (names : ℕ → List ℕ) (us : List Update) (fit : 
       (inside_hi : (k : ℕ) → r.from ≤ k → k < r.to → (update_at us k).time <ℤ cut.hi)
       (late : (k : ℕ) → r.to ≤ k → k < span.to → cut.hi ≤ℤ (update_at us k).time)
       (some : cut.lo <ℤ cut.hi) (later : bounds.lo ≤ℤ cut.lo) where
-    -- what holds of the times of updates holds of those of the events that they are
-    timed : (P : ℤ → Type 0) (a b : ℕ) → b ≤ length us → ((k : ℕ) → a ≤ k → k < b → P (update_at us k).time) → AllByRecursion (λ (x : Event). P x.time) (slice_range (events_told entity names us) a b)
-    timed P a b le h = subst (AllByRecursion (λ (x : Event). P x.time)) (sym (slice_map (event_told entity names) us a b)) (each_in_map (event_told entity names) (λ (u : Update). P u.time) (λ (x : Event). P x.time) (λ x p. p) (slice_range us a b) (each_in_slice (λ (u : Update). P u.time) us a b le h))
-
     js : List Event
     js = slice_range (events_told entity names us) span.from r.from
 
@@ -108,11 +103,11 @@ module _ (entity : Entity) (names : ℕ → List ℕ) (us : List Update) (fit : 
     parts =
         let end = is_span.end in
         record {
-          begun = timed (λ t. bounds.lo ≤ℤ t) span.from r.from (omega arith) (λ k a b. begun k a (omega arith));
-          early = timed (λ t. t <ℤ cut.lo) span.from r.from (omega arith) early;
-          inside_lo = timed (λ t. cut.lo ≤ℤ t) r.from r.to (omega arith) inside_lo;
-          inside_hi = timed (λ t. t <ℤ cut.hi) r.from r.to (omega arith) inside_hi;
-          late = timed (λ t. cut.hi ≤ℤ t) r.to span.to end late;
+          begun = each_in_time entity names us (λ t. bounds.lo ≤ℤ t) span.from r.from (omega arith) (λ k a b. begun k a (omega arith));
+          early = each_in_time entity names us (λ t. t <ℤ cut.lo) span.from r.from (omega arith) early;
+          inside_lo = each_in_time entity names us (λ t. cut.lo ≤ℤ t) r.from r.to (omega arith) inside_lo;
+          inside_hi = each_in_time entity names us (λ t. t <ℤ cut.hi) r.from r.to (omega arith) inside_hi;
+          late = each_in_time entity names us (λ t. cut.hi ≤ℤ t) r.to span.to end late;
         }
 
     in_parts : slice_range (events_told entity names us) span.from span.to ≡ slice_range (events_told entity names us) span.from r.from ++ (slice_range (events_told entity names us) r.from r.to ++ slice_range (events_told entity names us) r.to span.to)
@@ -146,17 +141,12 @@ pub empty_clip : (model : Model) (cut : Interval) → is_empty cut ≡ true → 
 empty_clip Instants cut h xs = none_within cut h xs
 empty_clip Persistent cut h xs = cond-true (is_empty cut) _ _ h
 
--- of nothing a window shows nothing
-pub nothing_clip : (model : Model) (cut : Interval) → clip_list model cut [] ≡ []
-nothing_clip Instants cut = refl
-nothing_clip Persistent cut = elim (is_empty cut) as (λ t. cond {A = List Event} t [] [] ≡ []) [ true ↦ refl | false ↦ refl ]
-
 -- an empty window of any span, and any window of a span with no event
 pub IsClipped-empty : (model : Model) (bounds cut : Interval) (us : List Update) (span r : Span) → is_empty cut ≡ true → HasNoEvent r → IsClipped model bounds cut us span r
 IsClipped-empty model bounds cut us span r h b entity names fit = bare_spelled entity names us fit r cut.lo b ∙ sym (empty_clip model cut h (spelled entity names us span bounds.lo))
 
 pub IsClipped-bare : (model : Model) (bounds cut : Interval) (us : List Update) (span r : Span) → HasNoEvent span → HasNoEvent r → IsClipped model bounds cut us span r
-IsClipped-bare model bounds cut us span r a b entity names fit = bare_spelled entity names us fit r cut.lo b ∙ sym (ap (clip_list model cut) (bare_spelled entity names us fit span bounds.lo a) ∙ nothing_clip model cut)
+IsClipped-bare model bounds cut us span r a b entity names fit = bare_spelled entity names us fit r cut.lo b ∙ sym (ap (clip_list model cut) (bare_spelled entity names us fit span bounds.lo a) ∙ clip_nothing model cut)
 
 -- what the two searches of a window find
 pub record IsFound (bounds cut : Interval) (us : List Update) (span r : Span) : Type 0 where
@@ -185,18 +175,15 @@ IsCut-found model bounds cut us span r s t some later sooner f c =
     let from = f.from in let order = f.order in let to = f.to in
     record {
       some = some;
-      before = λ k a. elim (before_or_from k span.from) [
+      before = λ k a. elim (cases_lt k span.from) [
         | inl b ↦ let early = t.before k b in omega (arith, ints)
         | inr b ↦ f.early k b a
       ];
       begun = λ k a b. f.begun k a (omega arith);
       unended = f.unended;
-      after = λ k a b. elim (before_or_from k span.to) [
+      after = λ k a b. elim (cases_lt k span.to) [
         | inl d ↦ f.late k a d
         | inr d ↦ let late = t.after k d b in omega (arith, ints)
       ];
       carried = c;
     }
-  where
-    before_or_from : (k n : ℕ) → (k < n) ⊎ (n ≤ k)
-    before_or_from k n = grind arith

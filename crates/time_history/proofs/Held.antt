@@ -1,18 +1,13 @@
 -- How the updates of a history lie in memory.
-use Rattle.std.proofs.Common.{◌≡◌, ℕ, zero, suc, ◌+◌, ◌^◌, ◌<◌, ◌≤◌, List, [], ◌∷◌, length, get_or, refl, ap, arith}
+use Rattle.std.proofs.Common.{◌≡◌, ℕ, zero, suc, ◌+◌, ◌^◌, ◌<◌, ◌≤◌, List, [], ◌∷◌, length, refl, ap, arith}
 use Rattle.std.specs.List.{insert, All, AllByRecursion}
 use Rattle.std.proofs.lemmas.List.Edits.{length-insert}
+pub use Rattle.world_laws.proofs.ListItems.{each_at}
 use Rattle.time_column.specs.Stamp.{Stamp, IsRising}
 use Rattle.time_history.specs.declared.updates.Update.{Update}
 use Rattle.time_history.specs.KeyValues.{KeyNumbersRise}
 use Rattle.time_history.specs.Updates.{ValuesRise}
 use Rattle.time_history.specs.History.{Change, updates_of, IsSound}
-
--- what holds of each item holds of the one at a place
-pub each_at : {X : Type 0} (P : X → Type 0) (xs : List X) (i : ℕ) (d : X) → AllByRecursion P xs → i < length xs → P (get_or xs i d)
-each_at P [] i d h lt = absurd (omega arith)
-each_at P (x ∷ xs) zero d h lt = h.0
-each_at P (x ∷ xs) (suc i) d h lt = each_at P xs i d h.1 (omega arith)
 
 pub each_insert : {X : Type 0} (P : X → Type 0) (xs : List X) (i : ℕ) (x : X) → i ≤ length xs → AllByRecursion P xs → P x → AllByRecursion P (insert xs i x)
 each_insert P [] zero x le h k = (k, tt)

@@ -1,7 +1,7 @@
 -- The kind of the last event of a span.
-use Rattle.std.proofs.Common.{◌≡◌, ℕ, ◌+◌, ◌-◌, ◌<◌, ◌≤◌, ℤ, Bool, true, false, not, ◌&&◌, ◌||◌, List, [], ◌∷◌, ◌++◌, Some, None, option_map, map, cond, length, get_or, take, slice_range, nat_lt, refl, sym, ◌∙◌, ap, subst, arith, append_assoc}
+use Rattle.std.proofs.Common.{◌≡◌, ℕ, ◌+◌, ◌-◌, ◌<◌, ◌≤◌, ℤ, true, false, not, ◌||◌, List, [], ◌∷◌, ◌++◌, Some, None, option_map, map, cond, length, get_or, take, slice_range, nat_lt, refl, sym, ◌∙◌, ap, subst, arith, append_assoc}
 use Rattle.std.specs.List.{last_or, list_any, AllByRecursion}
-use Rattle.std.proofs.lemmas.Bool.{cond-false}
+use Rattle.std.proofs.lemmas.Bool.{and_parts, cond-false, not-true}
 use Rattle.std.proofs.lemmas.List.{take-map, take_more, get_or-map, length-map}
 use Rattle.std.proofs.lemmas.Bool.Decides.{nat_tests}
 use Rattle.graph_model.specs.declared.properties.Value.{Value}
@@ -74,15 +74,6 @@ kept_kind (Edge edge) OfNode ps h k = cc
 kept_kind (Edge edge) Add ps h k = refl
 kept_kind (Edge edge) Delete ps h k = cc
 
-and_first : (a b : Bool) → (a && b) ≡ true → a ≡ true
-and_first true b h = refl
-and_first false b h = cc
-
-and_second : (a b : Bool) → (a && not b) ≡ true → b ≡ false
-and_second true true h = cc
-and_second true false h = refl
-and_second false b h = cc
-
 module _ (entity : Entity) (names : ℕ → List ℕ) (us : List Update) where
   all_told : (vs : List Update) → AllByRecursion (λ y. entity_of y ≡ entity) (events_told entity names vs)
   all_told [] = tt
@@ -96,8 +87,8 @@ module _ (entity : Entity) (names : ℕ → List ℕ) (us : List Update) where
   pub carried_one : Fits entity us → (from : ℕ) → from ≤ length us → carries Persistent us from ≡ true → (lo : ℤ)
       → carried_events lo (live_events (take from (events_told entity names us))) ≡ record { time = lo; order = 0; what = update_of entity (last_props (live_events (take from (events_told entity names us)))) } ∷ []
   carried_one fit from le h lo =
-      let first : nat_lt 0 from ≡ true = and_first (nat_lt 0 from) (not (is_delete (update_at us (from - 1)).kind)) h in
-      let kept : is_delete (update_at us (from - 1)).kind ≡ false = and_second (nat_lt 0 from) (is_delete (update_at us (from - 1)).kind) h in
+      let first : nat_lt 0 from ≡ true = (and_parts (nat_lt 0 from) (not (is_delete (update_at us (from - 1)).kind)) h).0 in
+      let kept : is_delete (update_at us (from - 1)).kind ≡ false = not-true (is_delete (update_at us (from - 1)).kind) (and_parts (nat_lt 0 from) (not (is_delete (update_at us (from - 1)).kind)) h).1 in
       let lt : 0 < from = grind (arith, nat_tests) in
       let last : Event = event_told entity names no_update in
       let events = events_told entity names us in
@@ -123,8 +114,8 @@ last_carried us span s le c entity names lo fit =
     let order = s.order in let end = s.end in
     let same : span.to ≡ span.from = omega arith in
     let h = s.carried c in
-    let first : nat_lt 0 span.from ≡ true = and_first (nat_lt 0 span.from) (not (is_delete (update_at us (span.from - 1)).kind)) h in
-    let kept : is_delete (update_at us (span.from - 1)).kind ≡ false = and_second (nat_lt 0 span.from) (is_delete (update_at us (span.from - 1)).kind) h in
+    let first : nat_lt 0 span.from ≡ true = (and_parts (nat_lt 0 span.from) (not (is_delete (update_at us (span.from - 1)).kind)) h).0 in
+    let kept : is_delete (update_at us (span.from - 1)).kind ≡ false = not-true (is_delete (update_at us (span.from - 1)).kind) (and_parts (nat_lt 0 span.from) (not (is_delete (update_at us (span.from - 1)).kind)) h).1 in
     let lt : 0 < span.from = grind (arith, nat_tests) in
     let ps = last_props (live_events (take span.from events)) in
     sym (ap (λ b. option_map f (last_or None (cond b (carried_events lo (live_events (take span.from events))) [] ++ slice_range events span.from span.to))) c

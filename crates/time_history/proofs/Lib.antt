@@ -1,3 +1,5 @@
+pub mod Places
+pub mod Moments
 pub mod Probes
 pub mod ByPlace
 pub mod Placing

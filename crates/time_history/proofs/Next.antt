@@ -3,7 +3,7 @@ use Rattle.std.proofs.Common.{◌≡◌, ℕ, zero, suc, ◌+◌, ◌-◌, ◌==
 use Rattle.std.specs.Prelude.{int_lt, int_le}
 use Rattle.std.specs.Int.{int_max}
 use Rattle.std.specs.List.{filter}
-use Rattle.std.proofs.lemmas.Bool.{cases_Bool, true≢false}
+use Rattle.std.proofs.lemmas.Bool.{and_right, cases_Bool, cases_lt, or_right, true≢false}
 use Rattle.std.proofs.lemmas.Bool.Decides.{nat_tests}
 use Rattle.std.proofs.lemmas.Int.{ints, clamps}
 use Rattle.graph_model.specs.declared.events.EdgeName.{EdgeName}
@@ -12,7 +12,7 @@ use Rattle.graph_model.specs.declared.events.Model.{Model}
 use Rattle.graph_model.specs.declared.events.Model.TheVariants.{Event as Instants, Persistent}
 use Rattle.graph_model.specs.Interval.{Interval, is_inside}
 use Rattle.graph_model.specs.Presence.{lives_at, ends_in_addition}
-use Rattle.world_laws.proofs.Times.{le_from_test, gt_from_test, ge_from_test, lt_test, not_le_test, not_lt_test, inside_test}
+use Rattle.world_laws.proofs.Times.{le_from_test, gt_from_test, ge_from_test, lt_test, not_le_test, not_lt_test, inside_test, lt_from_test}
 use Rattle.time_history.specs.declared.updates.Update.{Update}
 use Rattle.time_history.specs.declared.span.Span.{Span}
 use Rattle.time_history.specs.Kinds.{NoDeletion, is_delete}
@@ -22,7 +22,8 @@ use Rattle.time_history.specs.Spans.{IsSpan, IsCut, IsTaken, IsAllowed, spelled}
 use Rattle.time_history.specs.NoEvent.{HasNoEvent}
 use Rattle.time_history.proofs.Clips.{bare_spelled}
 use Rattle.time_history.specs.Asked.{IsAliveAt, IsNextUpdate, IsNextContact, is_final_at}
-use Rattle.time_history.proofs.Alive.{alive_instants, alive_after, alive_carried}
+use Rattle.time_history.proofs.Alive.{alive_instants, alive_after, alive_carried, uncarried}
+use Rattle.time_history.proofs.Places.{same_or_more}
 
 -- the first update that is later than a moment
 pub next_is : (us : List Update) (span : Span) (after m : ℤ) (at : ℕ) → IsSpan us span → span.from ≤ at → at < span.to
@@ -32,18 +33,11 @@ next_is us span after m at s from to before later rise e =
     let here = later at (omega arith) to in (
       omega (arith, ints),
       (at, from, to, sym e),
-      λ t a b k c d f. elim (split k at) [
+      λ t a b k c d f. elim (cases_lt k at) [
         | inl lt ↦ let le = before k c lt in omega (arith, ints)
         | inr ge ↦ let end = s.end in let le = rise at k ge (omega arith) in omega (arith, ints)
       ],
     )
-  where
-    split : (k at : ℕ) → (k < at) ⊎ (at ≤ k)
-    split k at = grind arith
-
-uncarried : (bounds : Interval) (us : List Update) (span : Span) → IsTaken Instants bounds us span → span.carried ≡ false
-uncarried bounds us span (inl bare) = bare.1
-uncarried bounds us span (inr cut) = cut.carried
 
 -- where edges are instants, the next update is the next contact
 pub next_instants : (bounds : Interval) (us : List Update) (span : Span) (after : ℤ) (r : Option ℤ) → IsSpan us span → NoDeletion us → IsTaken Instants bounds us span → IsNextUpdate us span after r → IsNextContact Instants bounds us span after r
@@ -76,17 +70,10 @@ and_false_right false b h e = refl
 
 -- an update that no other follows at its time
 last_of_time : (us : List Update) (i to : ℕ) (t : ℤ) → i < to → (update_at us i).time ≤ℤ t → ((k : ℕ) → i + 1 ≤ k → k < to → t <ℤ (update_at us k).time) → (i + 1 == to || int_lt (update_at us i).time (update_at us (i + 1)).time) ≡ true
-last_of_time us i to t lt le later = elim (end_or_more (i + 1) to (omega arith)) [
+last_of_time us i to t lt le later = elim (same_or_more (i + 1) to (omega arith)) [
   | inl e ↦ let q : (i + 1 == to) ≡ true = grind (arith, nat_tests) in ap (λ b. b || int_lt (update_at us i).time (update_at us (i + 1)).time) q
-  | inr m ↦ let more = later (i + 1) (omega arith) m in ap (λ b. (i + 1 == to) || b) (lt_test (update_at us i).time (update_at us (i + 1)).time (omega (arith, ints))) ∙ or_true (i + 1 == to)
+  | inr m ↦ let more = later (i + 1) (omega arith) m in ap (λ b. (i + 1 == to) || b) (lt_test (update_at us i).time (update_at us (i + 1)).time (omega (arith, ints))) ∙ or_right (i + 1 == to) true refl
 ]
-  where
-    end_or_more : (a b : ℕ) → a ≤ b → (a ≡ b) ⊎ (a < b)
-    end_or_more a b h = grind arith
-
-    or_true : (b : Bool) → (b || true) ≡ true
-    or_true true = refl
-    or_true false = refl
 
 -- outside the bounds nothing is alive
 outside : (edge : EdgeName) (names : ℕ → List ℕ) (us : List Update) (bounds : Interval) (span : Span) (t : ℤ) → is_inside bounds t ≡ false → lives_at Persistent bounds (spelled (Edge edge) names us span bounds.lo) t ≡ false
@@ -98,13 +85,10 @@ module _ (edge : EdgeName) (names : ℕ → List ℕ) (us : List Update) (bounds
       → ((k : ℕ) → span.from ≤ k → k < at → (update_at us k).time ≤ℤ u) → ((k : ℕ) → at ≤ k → k < span.to → u <ℤ (update_at us k).time)
       → is_inside bounds t ≡ true → is_inside bounds u ≡ true
       → lives_at Persistent bounds (spelled (Edge edge) names us span bounds.lo) t ≡ lives_at Persistent bounds (spelled (Edge edge) names us span bounds.lo) u
-  as_before t u at from to b1 a1 b2 a2 i1 i2 = elim (some_or_none span.from at) [
+  as_before t u at from to b1 a1 b2 a2 i1 i2 = elim (cases_lt span.from at) [
     | inl lt ↦ sym (alive_after edge names us span bounds t at s from to b1 a1 i1 lt) ∙ alive_after edge names us span bounds u at s from to b2 a2 i2 lt
     | inr ge ↦ sym (alive_carried edge names us span bounds t at s from to b1 a1 i1 ge fit) ∙ alive_carried edge names us span bounds u at s from to b2 a2 i2 ge fit
   ]
-    where
-      some_or_none : (a b : ℕ) → (a < b) ⊎ (b ≤ a)
-      some_or_none a b = grind arith
 
   -- no contact up to a place before which no addition is final
   pub quiet : (first t : ℤ) (at e : ℕ) → first <ℤ t → is_inside bounds first ≡ true → is_inside bounds t ≡ true → lives_at Persistent bounds (spelled (Edge edge) names us span bounds.lo) first ≡ false → span.from ≤ at → at ≤ e → e ≤ span.to
@@ -125,9 +109,6 @@ module _ (edge : EdgeName) (names : ℕ → List ℕ) (us : List Update) (bounds
             sym (alive_after edge names us span bounds t found.0 s (omega arith) (omega arith) found.3 found.4 i2 (omega arith))
             ∙ and_false_right (not (is_delete (update_at us i).kind)) (i + 1 == span.to || int_lt (update_at us i).time (update_at us (i + 1)).time) quiet_here last
       ]
-    where
-      same_or_more : (a b : ℕ) → a ≤ b → (a ≡ b) ⊎ (a < b)
-      same_or_more a b h = grind arith
 
 module _ (us : List Update) (bounds : Interval) (span : Span) (after first : ℤ) (s : IsSpan us span) (cut : IsCut Persistent bounds us span) (is : first ≡ int_max (after +ℤ pos 1) bounds.lo) where
   first_later : after <ℤ first
@@ -142,22 +123,15 @@ module _ (us : List Update) (bounds : Interval) (span : Span) (after first : ℤ
 
   none_later : is_inside bounds first ≡ false → (t : ℤ) → after <ℤ t → is_inside bounds t ≡ false
   none_later h t a = elim (cases_Bool (int_lt t first)) [
-    | inl e ↦ none_sooner t a (lt_from t first e)
+    | inl e ↦ none_sooner t a (lt_from_test t first e)
     | inr e ↦
         let ge = ge_from_test t first e in
         let end : bounds.hi ≤ℤ first = elim (cases_Bool (int_lt first bounds.hi)) [
-          | inl f ↦ absurd (true≢false (sym (inside_test bounds first first_lo (lt_from first bounds.hi f)) ∙ h))
+          | inl f ↦ absurd (true≢false (sym (inside_test bounds first first_lo (lt_from_test first bounds.hi f)) ∙ h))
           | inr f ↦ ge_from_test first bounds.hi f
         ] in
-        ap (λ x. int_le bounds.lo t && x) (not_lt_test t bounds.hi (omega (arith, ints))) ∙ never (int_le bounds.lo t)
+        ap (λ x. int_le bounds.lo t && x) (not_lt_test t bounds.hi (omega (arith, ints))) ∙ and_right (int_le bounds.lo t) false refl
   ]
-    where
-      lt_from : (a b : ℤ) → int_lt a b ≡ true → a <ℤ b
-      lt_from a b h = grind (arith, ints)
-
-      never : (b : Bool) → (b && false) ≡ false
-      never true = refl
-      never false = refl
 
   pub next_beyond : is_inside bounds first ≡ false → IsNextContact Persistent bounds us span after None
   next_beyond h = λ edge names fit t a. outside edge names us bounds span t (none_later h t a)
@@ -221,11 +195,8 @@ module _ (us : List Update) (bounds : Interval) (span : Span) (after first : ℤ
         next_is_later i k h a b e =
             let end = s.end in
             let t : (i + 1 == span.to) ≡ false = grind (arith, nat_tests) in
-            let less = lt_from (update_at us i).time (update_at us (i + 1)).time (sym (ap (λ x. x || int_lt (update_at us i).time (update_at us (i + 1)).time) t) ∙ e) in
+            let less = lt_from_test (update_at us i).time (update_at us (i + 1)).time (sym (ap (λ x. x || int_lt (update_at us i).time (update_at us (i + 1)).time) t) ∙ e) in
             let step = rise (i + 1) k a (omega arith) in omega (arith, ints)
-          where
-            lt_from : (a b : ℤ) → int_lt a b ≡ true → a <ℤ b
-            lt_from a b h = grind (arith, ints)
 
 -- a span with no event has no contact
 pub next_bare : (model : Model) (bounds : Interval) (us : List Update) (span : Span) (after : ℤ) → HasNoEvent span → IsNextContact model bounds us span after None
@@ -238,11 +209,7 @@ next_bare model bounds us span after bare edge names fit t a = ap (λ xs. lives_
 -- after the bounds there is no contact
 pub next_past : (model : Model) (bounds : Interval) (us : List Update) (span : Span) (after : ℤ) → IsSpan us span → IsAllowed model us → IsCut model bounds us span → bounds.hi ≤ℤ after → IsNextContact model bounds us span after None
 next_past Instants bounds us span after s none cut le edge names fit t a = sym (alive_instants edge names us span bounds t false s none cut.carried (λ k b c e. let high = cut.unended k b c in omega (arith, ints)))
-next_past Persistent bounds us span after s none cut le edge names fit t a = outside edge names us bounds span t (ap (λ x. int_le bounds.lo t && x) (not_lt_test t bounds.hi (omega (arith, ints))) ∙ never (int_le bounds.lo t))
-  where
-    never : (b : Bool) → (b && false) ≡ false
-    never true = refl
-    never false = refl
+next_past Persistent bounds us span after s none cut le edge names fit t a = outside edge names us bounds span t (ap (λ x. int_le bounds.lo t && x) (not_lt_test t bounds.hi (omega (arith, ints))) ∙ and_right (int_le bounds.lo t) false refl)
 
 -- a span that is cut is taken
 pub taken_of_cut : (model : Model) (bounds : Interval) (us : List Update) (span : Span) → IsCut model bounds us span → IsTaken model bounds us span

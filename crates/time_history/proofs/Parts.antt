@@ -3,7 +3,7 @@ use Rattle.std.proofs.Common.{◌≡◌, ◌≤ℤ◌, ◌<ℤ◌, Bool, true, f
 use Rattle.std.specs.Prelude.{int_lt, int_le}
 use Rattle.std.specs.List.{filter, AllByRecursion}
 use Rattle.std.proofs.lemmas.Int.{ints}
-use Rattle.std.proofs.lemmas.Bool.{cases_Bool, cond-false}
+use Rattle.std.proofs.lemmas.Bool.{and_right, cases_Bool, cond-false}
 use Rattle.std.proofs.lemmas.List.Elements.{filter-append}
 use Rattle.graph_model.specs.declared.events.Event.{Event}
 use Rattle.graph_model.specs.declared.events.Model.TheVariants.{Event as Instants, Persistent}
@@ -27,11 +27,7 @@ before_within : (i : Interval) (x : Event) → x.time <ℤ i.lo → is_within i 
 before_within i x h = ap (λ t. t && int_lt x.time i.hi) (not_le_test i.lo x.time h)
 
 after_within : (i : Interval) (x : Event) → i.hi ≤ℤ x.time → is_within i x ≡ false
-after_within i x h = ap (λ t. int_le i.lo x.time && t) (not_lt_test x.time i.hi h) ∙ never (int_le i.lo x.time)
-  where
-    never : (b : Bool) → (b && false) ≡ false
-    never true = refl
-    never false = refl
+after_within i x h = ap (λ t. int_le i.lo x.time && t) (not_lt_test x.time i.hi h) ∙ and_right (int_le i.lo x.time) false refl
 
 -- nothing is inside an interval with no moment
 pub none_within : (i : Interval) → is_empty i ≡ true → (xs : List Event) → filter (is_within i) xs ≡ []

@@ -12,7 +12,7 @@ pub length-placed : (u : Update) (us : List Update) → length (placed u us) ≡
 length-placed u [] = refl
 length-placed u (v ∷ us) = cond_both (is_lt (update_cmp u v)) (u ∷ v ∷ us) (v ∷ placed u us) (λ ws. length ws ≡ length (v ∷ us) + 1) (λ e. omega arith) (λ e. omega (arith, length-placed u us))
 
-each_placed : (P : Update → Type 0) (u : Update) (us : List Update) → AllByRecursion P us → P u → AllByRecursion P (placed u us)
+pub each_placed : (P : Update → Type 0) (u : Update) (us : List Update) → AllByRecursion P us → P u → AllByRecursion P (placed u us)
 each_placed P u [] h k = (k, tt)
 each_placed P u (v ∷ us) h k = cond_both (is_lt (update_cmp u v)) (u ∷ v ∷ us) (v ∷ placed u us) (AllByRecursion P) (λ e. (k, h)) (λ e. (h.0, each_placed P u us h.1 k))
 

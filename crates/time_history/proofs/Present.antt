@@ -2,7 +2,7 @@
 use Rattle.std.proofs.Common.{◌≡◌, ℕ, zero, suc, ◌+◌, ◌-◌, ◌<◌, ◌≤◌, ◌⊎◌, ◌==◌, ℤ, ◌≤ℤ◌, ◌<ℤ◌, Bool, true, false, not, ◌&&◌, ◌||◌, List, [], ◌∷◌, ◌++◌, cond, length, take, slice_range, refl, sym, ◌∙◌, ap, subst, arith, inl, inr}
 use Rattle.std.specs.Prelude.{int_lt, int_le}
 use Rattle.std.specs.List.{AllByRecursion, list_any}
-use Rattle.std.proofs.lemmas.Bool.{cases_Bool}
+use Rattle.std.proofs.lemmas.Bool.{cases_Bool, or_right}
 use Rattle.std.proofs.lemmas.Bool.Decides.{nat_tests}
 use Rattle.std.proofs.lemmas.Int.{ints}
 use Rattle.graph_model.specs.declared.events.EdgeName.{EdgeName}
@@ -22,15 +22,12 @@ use Rattle.time_history.specs.Updates.{update_at, TimesRise}
 use Rattle.time_history.specs.Telling.{event_told, events_told, with_key_names, Fits}
 use Rattle.time_history.specs.Spans.{IsSpan, IsCut, IsTaken, IsAllowed, spelled}
 use Rattle.time_history.specs.Asked.{IsPresent, is_final_at}
-use Rattle.time_history.proofs.Segments.{slice_split, slice_nothing, slice_map, each_in_slice, each_in_map}
+use Rattle.time_history.proofs.Segments.{slice_split, slice_nothing, each_in_time}
 use Rattle.time_history.proofs.Clips.{bare_spelled}
-use Rattle.time_history.proofs.Alive.{alive_instants, carried_alive, told_one, adds-told, any_at}
+use Rattle.time_history.proofs.Alive.{alive_instants, carried_alive, told_one, adds-told, any_at, uncarried}
+use Rattle.time_history.proofs.Places.{same_or_more}
 use Rattle.world_laws.proofs.Nested.{TimesRise as EventsRise}
 use Rattle.world_laws.proofs.Final.{final_any, present_final, present_inside}
-
-no_second : (a : Bool) → (a && false) ≡ false
-no_second true = refl
-no_second false = refl
 
 -- one event that is carried, before others
 final-carried_events : (lo : ℤ) (xs ys : List Event) → ends_in_addition (carried_events lo xs) ≡ true → final_any (carried_events lo xs ++ ys) ≡ (not (list_any (λ y. int_le y.time lo) ys) || final_any ys)
@@ -42,16 +39,13 @@ none_early lo [] h = refl
 none_early lo (y ∷ ys) h = ap (λ b. b || list_any (λ z. int_le z.time lo) ys) (not_le_test y.time lo h.0) ∙ none_early lo ys h.1
 
 module _ (edge : EdgeName) (names : ℕ → List ℕ) (us : List Update) (rise : TimesRise us) where
-  timed : (P : ℤ → Type 0) (a b : ℕ) → b ≤ length us → ((k : ℕ) → a ≤ k → k < b → P (update_at us k).time) → AllByRecursion (λ (x : Event). P x.time) (slice_range (events_told (Edge edge) names us) a b)
-  timed P a b le h = subst (AllByRecursion (λ (x : Event). P x.time)) (sym (slice_map (event_told (Edge edge) names) us a b)) (each_in_map (event_told (Edge edge) names) (λ (u : Update). P u.time) (λ (x : Event). P x.time) (λ x p. p) (slice_range us a b) (each_in_slice (λ (u : Update). P u.time) us a b le h))
-
   -- a part, by its first event and the others
   slice_first : (i to : ℕ) → i < to → to ≤ length us → slice_range (events_told (Edge edge) names us) i to ≡ event_told (Edge edge) names (update_at us i) ∷ slice_range (events_told (Edge edge) names us) (i + 1) to
   slice_first i to lt le = slice_split (events_told (Edge edge) names us) i (i + 1) to (omega arith) (omega arith) ∙ ap (λ ys. ys ++ slice_range (events_told (Edge edge) names us) (i + 1) to) (told_one edge names us i (omega arith))
 
   -- whether an event of a part has another at its time after it
   followed : (i to : ℕ) → i < to → to ≤ length us → not (list_any (λ y. int_le y.time (update_at us i).time) (slice_range (events_told (Edge edge) names us) (i + 1) to)) ≡ (i + 1 == to || int_lt (update_at us i).time (update_at us (i + 1)).time)
-  followed i to lt le = elim (end_or_more (i + 1) to (omega arith)) [
+  followed i to lt le = elim (same_or_more (i + 1) to (omega arith)) [
     | inl e ↦
         let t : (i + 1 == to) ≡ true = grind (arith, nat_tests) in
         ap (λ ys. not (list_any (λ y. int_le y.time (update_at us i).time) ys)) (ap (slice_range (events_told (Edge edge) names us) (i + 1)) (sym e) ∙ slice_nothing (events_told (Edge edge) names us) (i + 1))
@@ -61,7 +55,7 @@ module _ (edge : EdgeName) (names : ℕ → List ℕ) (us : List Update) (rise :
         elim (cases_Bool (int_lt (update_at us i).time (update_at us (i + 1)).time)) [
           | inl e ↦
               let less = lt_from_test (update_at us i).time (update_at us (i + 1)).time e in
-              ap not (none_early (update_at us i).time (slice_range (events_told (Edge edge) names us) (i + 1) to) (timed (λ z. (update_at us i).time <ℤ z) (i + 1) to le (λ k a b. let step = rise (i + 1) k a (omega arith) in omega (arith, ints))))
+              ap not (none_early (update_at us i).time (slice_range (events_told (Edge edge) names us) (i + 1) to) (each_in_time (Edge edge) names us (λ z. (update_at us i).time <ℤ z) (i + 1) to le (λ k a b. let step = rise (i + 1) k a (omega arith) in omega (arith, ints))))
               ∙ sym (ap (λ b. b || int_lt (update_at us i).time (update_at us (i + 1)).time) t ∙ e)
           | inr e ↦
               let ge = ge_from_test (update_at us i).time (update_at us (i + 1)).time e in
@@ -69,9 +63,6 @@ module _ (edge : EdgeName) (names : ℕ → List ℕ) (us : List Update) (rise :
               ∙ sym (ap (λ b. b || int_lt (update_at us i).time (update_at us (i + 1)).time) t ∙ e)
         ]
   ]
-    where
-      end_or_more : (a b : ℕ) → a ≤ b → (a ≡ b) ⊎ (a < b)
-      end_or_more a b h = grind arith
 
   -- the first event of a part, and the others
   final_first : (i to : ℕ) → i < to → to ≤ length us → final_any (slice_range (events_told (Edge edge) names us) i to) ≡ (is_final_at us i to || final_any (slice_range (events_told (Edge edge) names us) (i + 1) to))
@@ -91,28 +82,24 @@ module _ (edge : EdgeName) (names : ℕ → List ℕ) (us : List Update) (rise :
       let lt : i < to = omega arith in
       final_first i to lt le ∙ (elim (first_or_later i k a) [
         | inl same ↦ ap (λ t. t || final_any (slice_range (events_told (Edge edge) names us) (i + 1) to)) (ap (λ m. is_final_at us m to) same ∙ h)
-        | inr later ↦ ap (λ t. is_final_at us i to || t) (final_some n (i + 1) k to (omega arith) le later b h) ∙ or_true (is_final_at us i to)
+        | inr later ↦ ap (λ t. is_final_at us i to || t) (final_some n (i + 1) k to (omega arith) le later b h) ∙ or_right (is_final_at us i to) true refl
       ])
     where
       first_or_later : (i k : ℕ) → i ≤ k → (i ≡ k) ⊎ (i + 1 ≤ k)
       first_or_later i k h = grind arith
 
-      or_true : (b : Bool) → (b || true) ≡ true
-      or_true true = refl
-      or_true false = refl
-
   rising_slice : (n i to : ℕ) → i + n ≡ to → to ≤ length us → EventsRise (slice_range (events_told (Edge edge) names us) i to)
   rising_slice zero i to e le = let same : i ≡ to = omega arith in subst (λ m. EventsRise (slice_range (events_told (Edge edge) names us) i m)) same (subst EventsRise (sym (slice_nothing (events_told (Edge edge) names us) i)) tt)
   rising_slice (suc n) i to e le =
       let lt : i < to = omega arith in
-      subst EventsRise (sym (slice_first i to lt le)) (timed (λ z. (update_at us i).time ≤ℤ z) (i + 1) to le (λ k a b. rise i k (omega arith) (omega arith)), rising_slice n (i + 1) to (omega arith) le)
+      subst EventsRise (sym (slice_first i to lt le)) (each_in_time (Edge edge) names us (λ z. (update_at us i).time ≤ℤ z) (i + 1) to le (λ k a b. rise i k (omega arith) (omega arith)), rising_slice n (i + 1) to (omega arith) le)
 
   module _ (bounds : Interval) (span : Span) (s : IsSpan us span) (fit : Fits (Edge edge) us) (cut : IsCut Persistent bounds us span) where
     rest : List Event
     rest = slice_range (events_told (Edge edge) names us) span.from span.to
 
     inside_rest : AllByRecursion (λ x. is_inside bounds x.time ≡ true) (slice_range (events_told (Edge edge) names us) span.from span.to)
-    inside_rest = timed (λ t. is_inside bounds t ≡ true) span.from span.to s.end (λ k a b. inside_test bounds (update_at us k).time (cut.begun k a b) (cut.unended k a b))
+    inside_rest = each_in_time (Edge edge) names us (λ t. is_inside bounds t ≡ true) span.from span.to s.end (λ k a b. inside_test bounds (update_at us k).time (cut.begun k a b) (cut.unended k a b))
 
     inside_all : (c : Bool) (xs : List Event) → AllByRecursion (λ x. is_inside bounds x.time ≡ true) (cond c (carried_events bounds.lo xs) [] ++ slice_range (events_told (Edge edge) names us) span.from span.to)
     inside_all false xs = inside_rest
@@ -122,7 +109,7 @@ module _ (edge : EdgeName) (names : ℕ → List ℕ) (us : List Update) (rise :
     rising_all : (c : Bool) (xs : List Event) → EventsRise (cond c (carried_events bounds.lo xs) [] ++ slice_range (events_told (Edge edge) names us) span.from span.to)
     rising_all false xs = let order = s.order in rising_slice (span.to - span.from) span.from span.to (omega arith) s.end
     rising_all true [] = let order = s.order in rising_slice (span.to - span.from) span.from span.to (omega arith) s.end
-    rising_all true (x ∷ xs) = let order = s.order in (timed (λ t. bounds.lo ≤ℤ t) span.from span.to s.end cut.begun, rising_slice (span.to - span.from) span.from span.to (omega arith) s.end)
+    rising_all true (x ∷ xs) = let order = s.order in (each_in_time (Edge edge) names us (λ t. bounds.lo ≤ℤ t) span.from span.to s.end cut.begun, rising_slice (span.to - span.from) span.from span.to (omega arith) s.end)
 
     pub present_is : list_any (λ x. lives_at Persistent bounds (spelled (Edge edge) names us span bounds.lo) x.time) (spelled (Edge edge) names us span bounds.lo) ≡ final_any (spelled (Edge edge) names us span bounds.lo)
     present_is =
@@ -153,18 +140,14 @@ module _ (edge : EdgeName) (names : ℕ → List ℕ) (us : List Update) (rise :
     present_carried c lt h =
         let less = lt_from_test bounds.lo (update_at us span.from).time h in
         let end = s.end in
-        let none = none_early bounds.lo (slice_range (events_told (Edge edge) names us) span.from span.to) (timed (λ t. bounds.lo <ℤ t) span.from span.to s.end (λ k a b. let step = rise span.from k a (omega arith) in omega (arith, ints))) in
+        let none = none_early bounds.lo (slice_range (events_told (Edge edge) names us) span.from span.to) (each_in_time (Edge edge) names us (λ t. bounds.lo <ℤ t) span.from span.to s.end (λ k a b. let step = rise span.from k a (omega arith) in omega (arith, ints))) in
         sym (present_parts ∙ (λ i. (c i && not (none i)) || final_any (slice_range (events_told (Edge edge) names us) span.from span.to)))
 
     -- an addition that nothing follows at its time
     pub present_found : (k : ℕ) → span.from ≤ k → k < span.to → is_final_at us k span.to ≡ true → true ≡ list_any (λ x. lives_at Persistent bounds (spelled (Edge edge) names us span bounds.lo) x.time) (spelled (Edge edge) names us span bounds.lo)
     present_found k a b h =
         let order = s.order in
-        sym (present_parts ∙ (ap (λ t. (span.carried && not (list_any (λ y. int_le y.time bounds.lo) (slice_range (events_told (Edge edge) names us) span.from span.to))) || t) (final_some (span.to - span.from) span.from k span.to (omega arith) s.end a b h) ∙ or_true (span.carried && not (list_any (λ y. int_le y.time bounds.lo) (slice_range (events_told (Edge edge) names us) span.from span.to)))))
-      where
-        or_true : (b : Bool) → (b || true) ≡ true
-        or_true true = refl
-        or_true false = refl
+        sym (present_parts ∙ (ap (λ t. (span.carried && not (list_any (λ y. int_le y.time bounds.lo) (slice_range (events_told (Edge edge) names us) span.from span.to))) || t) (final_some (span.to - span.from) span.from k span.to (omega arith) s.end a b h) ∙ or_right (span.carried && not (list_any (λ y. int_le y.time bounds.lo) (slice_range (events_told (Edge edge) names us) span.from span.to))) true refl))
 
     -- nothing carried is final, and no addition
     pub present_none : span.from < span.to → (span.carried ≡ true → int_lt bounds.lo (update_at us span.from).time ≡ false) → ((k : ℕ) → span.from ≤ k → k < span.to → is_final_at us k span.to ≡ false)
@@ -189,17 +172,9 @@ present_instants Persistent bounds us span r m s none t some bare = cc
 present_instants Instants bounds us span false m s none t some bare =
     let le = bare refl in
     let order = s.order in
-    present_bare Instants bounds us span (omega arith, uncarried t)
-  where
-    uncarried : IsTaken Instants bounds us span → span.carried ≡ false
-    uncarried (inl b) = b.1
-    uncarried (inr cut) = cut.carried
+    present_bare Instants bounds us span (omega arith, uncarried bounds us span t)
 present_instants Instants bounds us span true m s none t some bare = λ edge names fit.
     let lt = some refl in
-    sym (ap (λ b. list_any (λ x. lives_at Instants bounds (spelled (Edge edge) names us span bounds.lo) x.time) (cond b (carried_events bounds.lo (live_events (take span.from (events_told (Edge edge) names us)))) [] ++ slice_range (events_told (Edge edge) names us) span.from span.to)) (uncarried t)
+    sym (ap (λ b. list_any (λ x. lives_at Instants bounds (spelled (Edge edge) names us span bounds.lo) x.time) (cond b (carried_events bounds.lo (live_events (take span.from (events_told (Edge edge) names us)))) [] ++ slice_range (events_told (Edge edge) names us) span.from span.to)) (uncarried bounds us span t)
     ∙ any_at edge names us (λ x. lives_at Instants bounds (spelled (Edge edge) names us span bounds.lo) x.time) span.from span.to span.from s.end (omega arith) lt
-    (sym (alive_instants edge names us span bounds (update_at us span.from).time true s none (uncarried t) (span.from, omega arith, lt, refl))))
-  where
-    uncarried : IsTaken Instants bounds us span → span.carried ≡ false
-    uncarried (inl b) = b.1
-    uncarried (inr cut) = cut.carried
+    (sym (alive_instants edge names us span bounds (update_at us span.from).time true s none (uncarried bounds us span t) (span.from, omega arith, lt, refl))))

@@ -1,7 +1,7 @@
 -- The value of a key in a span.
-use Rattle.std.proofs.Common.{◌≡◌, ℕ, ◌+◌, ◌-◌, ◌<◌, ◌≤◌, ◌==◌, ℤ, Bool, true, false, ◌||◌, List, [], ◌∷◌, ◌++◌, Option, Some, None, option_map, cond, map, length, take, slice_range, refl, sym, ◌∙◌, ap, subst, inl, inr, arith}
+use Rattle.std.proofs.Common.{◌≡◌, ℕ, ◌+◌, ◌-◌, ◌<◌, ◌≤◌, ◌==◌, ℤ, Bool, true, false, ◌||◌, List, [], ◌∷◌, ◌++◌, Option, Some, None, option_map, cond, map, length, take, slice_range, refl, sym, ◌∙◌, ap, subst, arith}
 use Rattle.std.specs.List.{find, list_any, filter_map, cons_option, last_or, AllByRecursion}
-use Rattle.std.proofs.lemmas.Bool.{cases_Bool, cond-true, cond-false}
+use Rattle.std.proofs.lemmas.Bool.{cond-true, cond-false}
 use Rattle.std.proofs.lemmas.Bool.Decides.{nat_tests}
 use Rattle.std.proofs.lemmas.List.Elements.{recursion_from_All, filter_map-append}
 use Rattle.graph_model.specs.declared.properties.Value.{Value}
@@ -13,9 +13,11 @@ use Rattle.graph_model.specs.Entity.{is_deletion, props_of, what_props}
 use Rattle.graph_model.specs.Props.{prop_value}
 use Rattle.graph_model.specs.Compare.{live_events, last_value, value_of}
 use Rattle.graph_model.specs.Window.{carried_events}
-use Rattle.world_laws.proofs.Order.{same_name-refl, same_name-exact}
+use Rattle.world_laws.proofs.Order.{same_name-refl, same_name-other}
 use Rattle.world_laws.proofs.Distinct.{Distinct, Distinct-put_prop, any-put_prop, value-put_prop, last_or-append, value_of-carried_events}
 use Rattle.world_laws.proofs.Live.{live_events-append, live_all}
+use Rattle.world_laws.proofs.ListItems.{no_images}
+use Rattle.world_laws.proofs.Named.{none_pass}
 use Rattle.time_history.specs.declared.updates.Kind.{Kind}
 use Rattle.time_history.specs.declared.updates.Kind.TheVariants.{Node as OfNode, Add, Delete}
 use Rattle.time_history.specs.declared.updates.Update.{Update}
@@ -26,19 +28,12 @@ use Rattle.time_history.specs.Updates.{update_at, no_update, ValuesRise}
 use Rattle.time_history.specs.Telling.{event_told, events_told, what_told, with_key_names, Fits}
 use Rattle.time_history.specs.Spans.{IsSpan, spelled}
 use Rattle.time_history.specs.Asked.{AreNamed, IsValueIn, IsValue}
-use Rattle.time_history.proofs.Segments.{slice_split, take_split, slice_map, each_in_slice, each_in_map}
+use Rattle.time_history.proofs.Segments.{slice_split, take_split, slice_map, each_told}
 use Rattle.time_history.proofs.Clips.{deletes-told}
-use Rattle.time_history.proofs.Alive.{slice_one, none_any}
+use Rattle.time_history.proofs.Alive.{slice_one}
 
 value_at_key-more : (key : ℕ) (p : ℕ × Value) (ps : List (ℕ × Value)) → value_at_key key (p ∷ ps) ≡ cond (p.0 == key) (Some p.1) (value_at_key key ps)
 value_at_key-more key p ps = elim (p.0 == key) as (λ t. option_map (λ (q : ℕ × Value). q.1) (cond t (Some p) (find (λ (q : ℕ × Value). q.0 == key) ps)) ≡ cond t (Some p.1) (value_at_key key ps)) [ true ↦ refl | false ↦ refl ]
-
--- names that differ are not the same
-same_name-other : (a b : List ℕ) → (a ≡ b → ⊥) → same_name a b ≡ false
-same_name-other a b h = elim (cases_Bool (same_name a b)) [
-  | inl t ↦ absurd (h (same_name-exact a b t))
-  | inr f ↦ f
-]
 
 module _ (names : ℕ → List ℕ) (n : ℕ) (apart : (i j : ℕ) → i < n → j < n → names i ≡ names j → i ≡ j) where
   -- a key that is not there has a name that is not there
@@ -82,10 +77,6 @@ distinct_told (Edge edge) OfNode ps h = h
 distinct_told (Edge edge) Add ps h = h
 distinct_told (Edge edge) Delete ps h = tt
 
-filter_map_none : {X Y : Type 0} (f : X → Option Y) (xs : List X) → AllByRecursion (λ x. f x ≡ None) xs → filter_map f xs ≡ []
-filter_map_none f [] h = refl
-filter_map_none f (x ∷ xs) h = ap (λ o. cons_option o (filter_map f xs)) h.0 ∙ filter_map_none f xs h.1
-
 module _ (entity : Entity) (names : ℕ → List ℕ) (us : List Update) (n key : ℕ) (fit : Fits entity us) (are : AreNamed names n us) (lt : key < n) (rise : ValuesRise us) where
   v : Event → Option Value
   v x = prop_value (names key) (props_of x)
@@ -103,18 +94,15 @@ module _ (entity : Entity) (names : ℕ → List ℕ) (us : List Update) (n key 
   undeleted_at : (k : ℕ) → k < length us → (b : Bool) → is_delete (update_at us k).kind ≡ b → is_deletion (event_told entity names (update_at us k)) ≡ b
   undeleted_at k h b e = deletes-told entity (update_at us k).kind (with_key_names names (update_at us k).props) (fit k no_update h) ∙ e
 
-  told : (P : Event → Type 0) (a b : ℕ) → b ≤ length us → ((k : ℕ) → a ≤ k → k < b → P (event_told entity names (update_at us k))) → AllByRecursion P (slice_range (events_told entity names us) a b)
-  told P a b le h = subst (AllByRecursion P) (sym (slice_map (event_told entity names) us a b)) (each_in_map (event_told entity names) (λ u. P (event_told entity names u)) P (λ u p. p) (slice_range us a b) (each_in_slice (λ u. P (event_told entity names u)) us a b le h))
-
   first_of : (i to : ℕ) → i < to → to ≤ length us → slice_range (events_told entity names us) i to ≡ event_told entity names (update_at us i) ∷ slice_range (events_told entity names us) (i + 1) to
   first_of i to h le = slice_split (events_told entity names us) i (i + 1) to (omega arith) (omega arith) ∙ ap (λ ys. ys ++ slice_range (events_told entity names us) (i + 1) to) (slice_map (event_told entity names) us i (i + 1) ∙ ap (map (event_told entity names)) (slice_one us i (omega arith)))
 
   module _ (i to : ℕ) (le : to ≤ length us) (kept : (k : ℕ) → i ≤ k → k < to → is_delete (update_at us k).kind ≡ false) (without : (k : ℕ) → i ≤ k → k < to → value_at_key key (update_at us k).props ≡ None) where
     no_deletion : list_any is_deletion (slice_range (events_told entity names us) i to) ≡ false
-    no_deletion = none_any is_deletion (slice_range (events_told entity names us) i to) (told (λ x. is_deletion x ≡ false) i to le (λ k a b. undeleted_at k (omega arith) false (kept k a b)))
+    no_deletion = none_pass is_deletion (slice_range (events_told entity names us) i to) (each_told entity names us (λ x. is_deletion x ≡ false) i to le (λ k a b. undeleted_at k (omega arith) false (kept k a b)))
 
     no_value : filter_map (λ x. prop_value (names key) (props_of x)) (slice_range (events_told entity names us) i to) ≡ []
-    no_value = filter_map_none (λ x. prop_value (names key) (props_of x)) (slice_range (events_told entity names us) i to) (told (λ x. prop_value (names key) (props_of x) ≡ None) i to le (λ k a b. value_at k (omega arith) (kept k a b) ∙ without k a b))
+    no_value = no_images (λ x. prop_value (names key) (props_of x)) (slice_range (events_told entity names us) i to) (each_told entity names us (λ x. prop_value (names key) (props_of x) ≡ None) i to le (λ k a b. value_at k (omega arith) (kept k a b) ∙ without k a b))
 
     -- no update has the key
     value_nowhere : value_of (names key) (slice_range (events_told entity names us) i to) ≡ None
@@ -150,7 +138,7 @@ module _ (entity : Entity) (names : ℕ → List ℕ) (us : List Update) (n key 
         ∙ last_or-append None (filter_map f (live_events front)) (w ∷ [])))
 
   distinct_front : (m : ℕ) → m ≤ length us → AllByRecursion (λ x. Distinct (props_of x)) (take m (events_told entity names us))
-  distinct_front m le = subst (AllByRecursion (λ x. Distinct (props_of x))) (ap (λ k. take k (events_told entity names us)) same) (told (λ x. Distinct (props_of x)) 0 m le (λ k a b. distinct_at k (omega arith)))
+  distinct_front m le = subst (AllByRecursion (λ x. Distinct (props_of x))) (ap (λ k. take k (events_told entity names us)) same) (each_told entity names us (λ x. Distinct (props_of x)) 0 m le (λ k a b. distinct_at k (omega arith)))
     where
       same : m - 0 ≡ m
       same = omega arith

@@ -146,10 +146,14 @@ impl History {
     /// The place after all updates whose time and order are not greater. The last is tried first.
     fn place_of<L: Ledger>(&self, time: i64, order: u32, steps: &mut Steps<L>) -> usize
         ensures within { result ≤ length self.now.updates }
-        ensures before { (k : ℕ) → k < result → is_not_after time order (stamp_of (update_at self.now.updates k)) ≡ true }
-        ensures after { (k : ℕ) → result ≤ k → k < length self.now.updates → is_not_after time order (stamp_of (update_at self.now.updates k)) ≡ false }
+        ensures before { (k : ℕ) → k < result
+            → is_not_after time order (stamp_of (update_at self.now.updates k)) ≡ true }
+        ensures after { (k : ℕ) → result ≤ k → k < length self.now.updates
+            → is_not_after time order (stamp_of (update_at self.now.updates k)) ≡ false }
         ensures cost { steps.new ≤ steps.old + (digits (length self.now.updates) + 1) }
-        ensures cost_at_end { ((k : ℕ) → k < length self.now.updates → is_not_after time order (stamp_of (update_at self.now.updates k)) ≡ true) → steps.new ≤ steps.old + 1 }
+        ensures cost_at_end { ((k : ℕ) → k < length self.now.updates
+            → is_not_after time order (stamp_of (update_at self.now.updates k)) ≡ true)
+            → steps.new ≤ steps.old + 1 }
     {
         last_place(&self.column, Probe::NotAfter(time, order), steps)
     }
@@ -157,8 +161,12 @@ impl History {
     /// Puts an update before the one at a place, where there is room for it.
     fn place(&mut self, at: usize, update: Update)
         requires within { at ≤ length self.old.updates }
-        requires before { (k : ℕ) → k < at → is_not_after update.time update.order (stamp_of (update_at self.old.updates k)) ≡ true }
-        requires after { (k : ℕ) → at ≤ k → k < length self.old.updates → is_not_after update.time update.order (stamp_of (update_at self.old.updates k)) ≡ false }
+        requires before { (k : ℕ) → k < at
+            → is_not_after update.time update.order (stamp_of (update_at self.old.updates k))
+            ≡ true }
+        requires after { (k : ℕ) → at ≤ k → k < length self.old.updates
+            → is_not_after update.time update.order (stamp_of (update_at self.old.updates k))
+            ≡ false }
         requires last { All (λ u. u.arrival < update.arrival) self.old.updates }
         requires fits { length self.old.updates < 2 ^ 32 - 1 }
         requires room { 0 < self.old.spare }
@@ -194,8 +202,10 @@ impl History {
         requires end { to ≤ length self.now.updates }
         ensures from { from ≤ result }
         ensures to { result ≤ to }
-        ensures before { (k : ℕ) → from ≤ k → k < result → (update_at self.now.updates k).time <ℤ time }
-        ensures after { (k : ℕ) → result ≤ k → k < to → time ≤ℤ (update_at self.now.updates k).time }
+        ensures before { (k : ℕ) → from ≤ k → k < result
+            → (update_at self.now.updates k).time <ℤ time }
+        ensures after { (k : ℕ) → result ≤ k → k < to
+            → time ≤ℤ (update_at self.now.updates k).time }
         ensures rise { TimesRise self.now.updates }
         ensures cost { steps.new ≤ steps.old + digits (to - from) }
     {
@@ -251,7 +261,8 @@ impl History {
     fn lasts_at<L: Ledger>(&self, span: Span, m: i64, steps: &mut Steps<L>) -> bool
         requires span { IsSpan self.now.updates span }
         requires below { m <ℤ latest }
-        ensures alive { (bounds : Interval) → is_inside bounds m ≡ true → IsAliveAt Persistent bounds self.now.updates span m result }
+        ensures alive { (bounds : Interval) → is_inside bounds m ≡ true
+            → IsAliveAt Persistent bounds self.now.updates span m result }
         ensures cost { steps.new ≤ steps.old + digits (span.to - span.from) }
     {
         let at = self.first_from(span.from, span.to, m + 1, steps);

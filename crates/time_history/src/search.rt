@@ -47,8 +47,10 @@ pub fn first_after<T: Copy, B: Drop, L: Ledger>(
     requires rising { IsRising column.now.stamps }
     ensures from { from ≤ result }
     ensures to { result ≤ to }
-    ensures before { (k : ℕ) → from ≤ k → k < result → passes probe (stamp_at column.now.stamps k) ≡ true }
-    ensures after { (k : ℕ) → result ≤ k → k < to → passes probe (stamp_at column.now.stamps k) ≡ false }
+    ensures before { (k : ℕ) → from ≤ k → k < result
+        → passes probe (stamp_at column.now.stamps k) ≡ true }
+    ensures after { (k : ℕ) → result ≤ k → k < to
+        → passes probe (stamp_at column.now.stamps k) ≡ false }
     ensures cost { steps.new ≤ steps.old + digits (to - from) }
 {
     let mut low = from;
@@ -75,9 +77,11 @@ pub fn last_place<T: Copy, B: Drop, L: Ledger>(
 ) -> usize
     ensures within { result ≤ length column.now.stamps }
     ensures before { (k : ℕ) → k < result → passes probe (stamp_at column.now.stamps k) ≡ true }
-    ensures after { (k : ℕ) → result ≤ k → k < length column.now.stamps → passes probe (stamp_at column.now.stamps k) ≡ false }
+    ensures after { (k : ℕ) → result ≤ k → k < length column.now.stamps
+        → passes probe (stamp_at column.now.stamps k) ≡ false }
     ensures cost { steps.new ≤ steps.old + (digits (length column.now.stamps) + 1) }
-    ensures cost_at_end { ((k : ℕ) → k < length column.now.stamps → passes probe (stamp_at column.now.stamps k) ≡ true) → steps.new ≤ steps.old + 1 }
+    ensures cost_at_end { ((k : ℕ) → k < length column.now.stamps
+        → passes probe (stamp_at column.now.stamps k) ≡ true) → steps.new ≤ steps.old + 1 }
 {
     let len = column.len();
     if len == 0 {

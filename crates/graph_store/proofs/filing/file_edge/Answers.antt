@@ -40,7 +40,7 @@ pub add-requires-clause-new : goal.add-requires-clause-new
 add-requires-clause-new g c =
     let e = c.number_parts-parts.ensures in
     let parts = c.number_parts-parts.result in
-    let nodes = e.names ∙ ap (λ ns. with_ends ns c.args.edge) c.reserve.ensures.names in
-    let layers = e.layers ∙ ap (λ ls. insert_key same_name ls c.args.edge.layer) c.reserve-2.ensures.names in
+    let nodes = e.names ∙ ap (λ ns. with_ends ns c.args.edge) c.reserve_edge.ensures.names in
+    let layers = e.layers ∙ ap (λ ls. insert_key same_name ls c.args.edge.layer) c.reserve_edge.ensures.layers in
     let is_named : edge_name (with_ends c.args.nodes.now.names c.args.edge) (insert_key same_name c.args.layers.now.names c.args.edge.layer) parts ≡ c.args.edge = sym (λ k. edge_name (nodes k) (layers k) parts) ∙ e.parts in
-    ap (list_any (same_parts parts)) (e.edges ∙ c.reserve-3.ensures.edges) ∙ new_parts c.args.nodes.now.names c.args.layers.now.names c.args.edge c.args.links.now.edges c.requires.within (sym c.in_default.ensures) parts is_named
+    ap (list_any (same_parts parts)) (e.edges ∙ c.reserve_edge.ensures.edges) ∙ new_parts c.args.nodes.now.names c.args.layers.now.names c.args.edge c.args.links.now.edges c.requires.within (sym c.in_default.ensures) parts is_named

@@ -31,18 +31,18 @@ returns-in-Some-clause-cost g c =
 
 pub add_name-requires-clause-new : goal.add_name-requires-clause-new
 add_name-requires-clause-new g c =
-    ap (list_any (same_name c.args.name)) c.reserve.ensures.names ∙ none_found (same_name c.args.name) c.args.nodes.now.names (sym c.in_default.ensures)
+    ap (list_any (same_name c.args.name)) c.reserve_nodes.ensures.names ∙ none_found (same_name c.args.name) c.args.nodes.now.names (sym c.in_default.ensures)
 
 pub add_name-requires-clause-few : goal.add_name-requires-clause-few
 add_name-requires-clause-few g c =
     let absent = none_found (same_name c.args.name) c.args.nodes.now.names (sym c.in_default.ensures) in
     let few = c.requires.few in
     let more = count-new c.args.nodes.now.names c.args.name absent in
-    let names = ap length c.reserve.ensures.names in
-    let limit = c.reserve.ensures.limit in
+    let names = ap length c.reserve_nodes.ensures.names in
+    let limit = c.reserve_nodes.ensures.limit in
     omega arith
 
 pub returns-clause-names : goal.returns-clause-names
 returns-clause-names g c =
     let absent = none_found (same_name c.args.name) c.args.nodes.now.names (sym c.in_default.ensures) in
-    c.add_name.ensures.names ∙ (ap (λ ns. ns ++ c.args.name ∷ []) c.reserve.ensures.names ∙ sym (insert_key-new same_name c.args.nodes.now.names c.args.name absent))
+    c.add_name.ensures.names ∙ (ap (λ ns. ns ++ c.args.name ∷ []) c.reserve_nodes.ensures.names ∙ sym (insert_key-new same_name c.args.nodes.now.names c.args.name absent))

@@ -3,13 +3,13 @@ use Rattle.std.specs.Prelude.{position}
 use Rattle.graph_model.specs.Names.{same_name}
 use Rattle.world_laws.proofs.Order.{same_name-refl}
 use Rattle.graph_store.proofs.Readers.{none_found, one_found}
-use Rattle.graph_store.proofs.Results.{insert_key-new}
-use Rattle.graph_store.proofs.EdgeNames.{known_same, last_place}
+use Rattle.graph_store.proofs.Results.{insert_key-new, insert_key-known}
+use Rattle.graph_store.proofs.EdgeNames.{last_place}
 use Rattle.graph_store.proofs.JudgeLaws.{count-new}
 use Rattle.graph_store.proofs.naming.number_name.Goals as goal
 
 pub returns-in-Some-clause-names : goal.returns-in-Some-clause-names
-returns-in-Some-clause-names c = known_same c.args.names.now.names c.args.name (one_found (same_name c.args.name) c.args.names.now.names c.in-Some.number [] (sym c.in-Some.ensures))
+returns-in-Some-clause-names c = sym (insert_key-known same_name c.args.names.now.names c.args.name (one_found (same_name c.args.name) c.args.names.now.names c.in-Some.number [] (sym c.in-Some.ensures)))
 
 pub add_name-requires-clause-new : goal.add_name-requires-clause-new
 add_name-requires-clause-new c = none_found (same_name c.args.name) c.args.names.now.names (sym c.in_default.ensures)

@@ -6,7 +6,7 @@ use Rattle.graph_store.specs.declared.pairs.Ends.{Ends}
 use Rattle.graph_store.specs.Ends.{ends_at}
 use Rattle.graph_store.specs.EdgeParts.{parts_in_layer}
 use Rattle.graph_store.specs.EdgeIndex.{EdgeIndex}
-use Rattle.graph_store.proofs.KeyLaws.{each_at}
+use Rattle.world_laws.proofs.ListItems.{each_at}
 use Rattle.graph_store.proofs.HeldLaws.{length-edges_from, edge-edges_from}
 use Rattle.graph_store.proofs.edges.EdgeTable.parts_of.Goals as goal
 

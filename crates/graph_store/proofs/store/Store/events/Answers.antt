@@ -1,4 +1,5 @@
 use Rattle.std.proofs.Common.{◌≤◌, length, sym, subst, arith}
+use Rattle.graph_model.specs.Limits.{most_nodes, most_types}
 use Rattle.graph_model.specs.World.{IsLawful}
 use Rattle.graph_model.specs.Accepting.{Quantity, count_of, limit_of}
 use Rattle.world_laws.proofs.Times.{le_test}
@@ -6,8 +7,9 @@ use Rattle.graph_store.specs.Histories.{updates_in}
 use Rattle.graph_store.specs.Contents.{Contents, base_of}
 use Rattle.graph_store.specs.Indexed.{IsIndexed}
 use Rattle.graph_store.specs.StoreInvariant.{contents}
-use Rattle.graph_store.proofs.StoreRead.{IsLawful-contents, Rises-types_named, limits}
+use Rattle.graph_store.proofs.StoreRead.{IsLawful-contents, limits}
 use Rattle.graph_store.proofs.store.Store.events.Goals as goal
+use Rattle.graph_store.proofs.TypeLaws.{Rises-types_named}
 
 pub returns-clause-lawful : goal.returns-clause-lawful
 returns-clause-lawful c =
@@ -20,8 +22,8 @@ returns-clause-limits c =
     let stored = c.self.invariant in
     let events = stored.events in
     let few_events = stored.few_events in
-    let nodes : length c.self.inside.nodes.names ≤ 1048576 = subst (λ (v : Contents). length v.nodes ≤ 1048576) (sym c.self.view_is) (subst (λ n. n ≤ 1048576) c.nodes-indexed.ensures.len c.nodes-indexed.ensures.few) in
-    let kinds : length c.self.inside.kinds.names ≤ 4096 = let most = c.len-kinds.ensures.limit in let len = c.len-kinds.ensures.len in let limit = stored.kind_limit in omega arith in
+    let nodes : length c.self.inside.nodes.names ≤ most_nodes = subst (λ (v : Contents). length v.nodes ≤ most_nodes) (sym c.self.view_is) (subst (λ n. n ≤ most_nodes) c.nodes-indexed.ensures.len c.nodes-indexed.ensures.few) in
+    let kinds : length c.self.inside.kinds.names ≤ most_types = let most = c.len-kinds.ensures.limit in let len = c.len-kinds.ensures.len in let limit = stored.kind_limit in omega arith in
     subst (λ (v : Contents). (k : Quantity) → count_of k v.accepted v.types ≤ limit_of k) c.self.view_is
     (limits (contents c.self.inside) (updates_in c.self.inside.node_histories.items) (updates_in c.self.inside.edge_histories.items) stored.contents_are
     (subst IsIndexed (sym c.self.view_is) c.nodes-indexed.ensures.indexed) c.len-node_keys.ensures.distinct c.len-edge_keys.ensures.distinct

@@ -2,6 +2,7 @@ use Rattle.std.proofs.Common.{◌≡◌, ◌∙◌, true, None, ◌<◌, ◌≤�
 use Rattle.std.proofs.lemmas.Int.{to_z-of_z}
 use Rattle.std.proofs.lemmas.List.{length-map}
 use Rattle.indexmap.specs.IndexSet.{insert_key}
+use Rattle.graph_model.specs.Limits.{most_events, most_layers, most_keys}
 use Rattle.graph_model.specs.Names.{same_name}
 use Rattle.graph_model.specs.Interval.{is_inside}
 use Rattle.graph_model.specs.World.{allows}
@@ -26,11 +27,11 @@ take_edge-requires-clause-next g c = λ values i lt.
 pub invariant_of-self-2 : goal.invariant_of-self-2
 invariant_of-self-2 g c =
     let e = c.in_ok-take_edge.ensures in
-    let few_events : length (contents c.self.inside).accepted < 4194304 = subst (λ (v : Contents). length v.accepted < 4194304) (sym c.self.view_is) c.requires.few_events in
+    let few_events : length (contents c.self.inside).accepted < most_events = subst (λ (v : Contents). length v.accepted < most_events) (sym c.self.view_is) c.requires.few_events in
     let events = c.self.invariant.events in
     let time = to_z-of_z w64 c.args.time c.ranges.time in
-    let few_layers : length (insert_key same_name c.self.inside.layers.names c.args.edge.layer) ≤ 64 = subst (λ (v : Contents). length (insert_key same_name v.layers c.args.edge.layer) ≤ 64) (sym c.self.view_is) c.requires.few_layers in
-    let few_keys : length (with_keys c.self.inside.edge_keys c.args.props.now) ≤ 256 = subst (λ (v : Contents). length (with_keys v.edge_keys c.args.props.now) ≤ 256) (sym c.self.view_is) c.requires.few_keys in
+    let few_layers : length (insert_key same_name c.self.inside.layers.names c.args.edge.layer) ≤ most_layers = subst (λ (v : Contents). length (insert_key same_name v.layers c.args.edge.layer) ≤ most_layers) (sym c.self.view_is) c.requires.few_layers in
+    let few_keys : length (with_keys c.self.inside.edge_keys c.args.props.now) ≤ most_keys = subst (λ (v : Contents). length (with_keys v.edge_keys c.args.props.now) ≤ most_keys) (sym c.self.view_is) c.requires.few_keys in
     IsStored-edge_taken c.self.inside c.self.invariant (subst IsIndexed (sym c.self.view_is) c.nodes-indexed.ensures.indexed) (to_z w64 (of_z w64 c.args.time)) c.args.order c.args.kind c.args.edge c.args.props.now
     c.take_edge.new.nodes c.take_edge.new.layers c.take_edge.new.keys c.take_edge.new.links c.take_edge.new.node_histories c.take_edge.new.edge_histories
     e.names e.limit e.layers e.layer_limit e.keys e.linked e.nodes_filed e.edges e.taken c.requires.kind c.requires.deletion (omega arith) few_layers few_keys

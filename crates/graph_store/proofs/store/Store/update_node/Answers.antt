@@ -1,6 +1,7 @@
 use Rattle.std.proofs.Common.{◌≡◌, ◌∙◌, true, None, ◌<◌, ◌≤◌, length, sym, ap, subst, arith, to_z, of_z, w64}
 use Rattle.std.proofs.lemmas.Int.{to_z-of_z}
 use Rattle.std.proofs.lemmas.List.{length-map}
+use Rattle.graph_model.specs.Limits.{most_events, most_keys}
 use Rattle.graph_model.specs.Interval.{is_inside}
 use Rattle.graph_model.specs.Accepting.{mistyped}
 use Rattle.time_history.specs.History.{UpdateList}
@@ -22,10 +23,10 @@ take_node-requires-clause-next g c = λ values i lt.
 pub invariant_of-self-2 : goal.invariant_of-self-2
 invariant_of-self-2 g c =
     let e = c.in_ok-take_node.ensures in
-    let few_events : length (contents c.self.inside).accepted < 4194304 = subst (λ (v : Contents). length v.accepted < 4194304) (sym c.self.view_is) c.requires.few_events in
+    let few_events : length (contents c.self.inside).accepted < most_events = subst (λ (v : Contents). length v.accepted < most_events) (sym c.self.view_is) c.requires.few_events in
     let events = c.self.invariant.events in
     let time = to_z-of_z w64 c.args.time c.ranges.time in
-    let few_keys : length (with_keys c.self.inside.node_keys c.args.props.now) ≤ 256 = subst (λ (v : Contents). length (with_keys v.node_keys c.args.props.now) ≤ 256) (sym c.self.view_is) c.requires.few_keys in
+    let few_keys : length (with_keys c.self.inside.node_keys c.args.props.now) ≤ most_keys = subst (λ (v : Contents). length (with_keys v.node_keys c.args.props.now) ≤ most_keys) (sym c.self.view_is) c.requires.few_keys in
     IsStored-taken c.self.inside c.self.invariant (to_z w64 (of_z w64 c.args.time)) c.args.order c.args.name c.args.props.now c.take_node.new.nodes c.take_node.new.keys c.take_node.new.links c.take_node.new.histories
     e.names e.limit e.keys e.linked e.edges e.pairs e.taken (omega arith) few_keys
     (subst (λ t. is_inside c.self.inside.bounds t ≡ true) (sym time) (subst (λ (v : Contents). is_inside v.bounds c.args.time ≡ true) (sym c.self.view_is) c.requires.inside))

@@ -1,4 +1,4 @@
-use Rattle.std.proofs.Common.{arith, ℤ, Bool, inl, inr, ◌≡◌, ◌<◌, ◌⊎◌, ℕ, ◌+◌, true, false, sym, ◌∙◌, ap, subst, List, w64, SFits, to_z, of_z}
+use Rattle.std.proofs.Common.{arith, ℤ, Bool, inl, inr, ◌≡◌, ◌<◌, true, false, sym, ◌∙◌, ap, subst, List, w64, SFits, to_z, of_z}
 use Rattle.std.specs.Prelude.{int_lt}
 use Rattle.std.proofs.lemmas.Int.{to_z-of_z}
 use Rattle.std.proofs.lemmas.Bool.{true≢false}
@@ -14,6 +14,7 @@ use Rattle.time_history.proofs.Clips.{cut_of_taken}
 use Rattle.time_history.proofs.Present.{present_found, present_none, present_carried, present_alone, present_bare}
 use Rattle.time_history.proofs.history.History.ever_alive.Goals as goal
 use Rattle.time_history.proofs.history.History.ever_alive.Goals.{else-span-2-via-then-span-2+else-is_later, else-span-2-via-else-span-2}
+use Rattle.time_history.proofs.Places.{before_or_last}
 
 alone : (bounds : Interval) (us : List Update) (span : Span) → TimesRise us → IsSpan us span → IsTaken Persistent bounds us span → span.from ≡ span.to → IsPresent Persistent bounds us span span.carried
 alone bounds us span rise s (inl b) e = subst (IsPresent Persistent bounds us span) (sym b.1) (present_bare Persistent bounds us span b)
@@ -77,10 +78,7 @@ returns g c =
     record { present = λ edge names fit. present_none edge names c.args.self.now.updates rise c.args.bounds c.args.span c.requires.span fit cut lt later (λ k a b. c.loop-i.invariant k a (omega arith)) }
 
 pub loop-i-preserved : goal.loop-i-preserved
-loop-i-preserved g c = λ k a b. elim (split k c.loop-i.i b) [
+loop-i-preserved g c = λ k a b. elim (before_or_last k c.loop-i.i b) [
   | inl lt ↦ c.loop-i.invariant k a lt
   | inr e ↦ ap (λ n. is_final_at c.args.self.now.updates n c.args.span.to) e ∙ sym c.if-is_final.ensures
 ]
-  where
-    split : (k i : ℕ) → k < i + 1 → (k < i) ⊎ (k ≡ i)
-    split k i h = grind arith
