@@ -9,6 +9,7 @@ use Rattle.graph_model.specs.declared.queries.Ask.{Ask}
 use Rattle.graph_model.specs.declared.queries.Each.{Each}
 use Rattle.graph_model.specs.declared.queries.Op.{Op}
 use Rattle.graph_model.specs.declared.queries.Query.{Query}
+use Rattle.graph_model.specs.Limits.{most_views}
 use Rattle.graph_model.specs.QueryForms.{ask_said, each_said, view_said}
 use Rattle.graph_model.specs.QueryOutcome.{all_of, both, map_outcome}
 use Rattle.graph_model.specs.QueryPlaces.{as_list}
@@ -35,9 +36,9 @@ abbrev pub ask_in : Option Data → Result Ask QueryRefusal
 ask_in None = Err Shape
 ask_in (Some d) = ask_said d
 
--- at most 64 views
+-- no more views than a query may have
 abbrev pub depth_of : List Data → Result ⊤ QueryRefusal
-depth_of ds = if nat_le (length ds) 64 then Ok tt else Err Depth
+depth_of ds = if nat_le (length ds) most_views then Ok tt else Err Depth
 
 abbrev pub views_listed : Option (List Data) → Result (List Op) QueryRefusal
 views_listed None = Err Shape

@@ -1,7 +1,7 @@
 -- What is read of a line or of a part of it: a value, or the refusal that comes first over the whole
 -- of it.
 use Rattle.std.specs.Prelude.{ℕ, nat_le, List, [], ◌∷◌, ◌++◌, fold, Result, Ok, Err, if◌then◌else◌}
-use Rattle.graph_model.specs.Script.{QueryRefusal, Json, Shape, Number, Depth, Windows, Unbuilt}
+use Rattle.graph_model.specs.Script.{QueryRefusal, Json, Shape, Number, Depth, Windows}
 
 -- the place of a cause in the order in which a query is judged
 abbrev pub judged_as : QueryRefusal → ℕ
@@ -10,7 +10,6 @@ judged_as Shape = 1
 judged_as Number = 2
 judged_as Depth = 3
 judged_as Windows = 4
-judged_as Unbuilt = 5
 
 -- of two refusals the one that is judged first
 abbrev pub first_refusal : QueryRefusal → QueryRefusal → QueryRefusal

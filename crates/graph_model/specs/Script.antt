@@ -33,8 +33,6 @@ pub data QueryRefusal : Type 0 where
   Depth : QueryRefusal
   -- it is asked of more than 65,536 windows
   Windows : QueryRefusal
-  -- it is not answered yet
-  Unbuilt : QueryRefusal
 
 -- the word for a cause
 abbrev pub query_refusal_name : QueryRefusal → List ℕ
@@ -43,4 +41,3 @@ query_refusal_name Shape = codes "shape"
 query_refusal_name Number = codes "number"
 query_refusal_name Depth = codes "depth"
 query_refusal_name Windows = codes "windows"
-query_refusal_name Unbuilt = codes "unbuilt"

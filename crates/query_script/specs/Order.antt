@@ -7,7 +7,7 @@ use Rattle.graph_model.specs.QueryForms.{view_said}
 use Rattle.graph_model.specs.QueryLine.{ask_in, depth_of, each_in, has_query_keys}
 use Rattle.graph_model.specs.QueryOutcome.{judged_as}
 use Rattle.graph_model.specs.QueryPlaces.{as_list}
-use Rattle.graph_model.specs.Script.{QueryRefusal, Json, Shape, Number, Depth, Windows, Unbuilt}
+use Rattle.graph_model.specs.Script.{QueryRefusal, Json, Shape, Number, Depth, Windows}
 
 -- whether something is refused for a cause, or for one that is judged before it
 abbrev pub is_refused_by : {A : Type 0} → QueryRefusal → Result A QueryRefusal → Bool
@@ -38,7 +38,6 @@ lies_in_value Shape = true
 lies_in_value Number = true
 lies_in_value Depth = true
 lies_in_value Windows = false
-lies_in_value Unbuilt = false
 
 -- whether what is read passes a test, or is refused for a cause that lies in the value
 abbrev pub is_kept : {A : Type 0} → (A → Bool) → Result A QueryRefusal → Bool

@@ -13,13 +13,13 @@ Refuses refused.Number said = said ≡ Err why.Number
 Refuses refused.Depth said = said ≡ Err why.Depth
 Refuses refused.Memory said = ⊤
 
--- the cause of a refusal, if it is no want of memory
+-- the cause of a refusal, if it is no want of memory; for that one stands that is no cause of a line
 abbrev pub cause : QueryRefusal → why.QueryRefusal
 cause refused.Json = why.Json
 cause refused.Shape = why.Shape
 cause refused.Number = why.Number
 cause refused.Depth = why.Depth
-cause refused.Memory = why.Unbuilt
+cause refused.Memory = why.Windows
 
 -- a call gave what is said, unless memory was wanting
 abbrev pub Gives : {A : Type 0} → Result A QueryRefusal → Result A why.QueryRefusal → Type 0
