@@ -4,6 +4,7 @@ ghost use Rattle.std.specs.List.{All};
 ghost use Rattle.graph_model.specs.Props.{KeysRise, put_prop};
 ghost use Rattle.time_history.specs.Telling.{what_told};
 ghost use Rattle.view_lists.specs.Borrowed.{event_borrowed, props_borrowed};
+ghost use Rattle.view_trait.specs.Coverage.{Covers};
 ghost use Rattle.view_lists.specs.Listing.{entity_named, IsShownEntity, IsPlaced, event_placed};
 
 use graph_model::{EdgeName, Event, EventList, Memory, Name, Props, What};
@@ -14,7 +15,7 @@ use time_history::Kind;
 use view_lists::{
     BorrowedEvent, EventPlace, Property, ShownEntity, Subject, borrowed_event, list_places,
 };
-use view_trait::View;
+use view_trait::{Roster, View};
 
 /// The names of an edge.
 fn edge_named(src: &Name, dst: &Name, layer: &Name) -> Result<EdgeName, Memory>
@@ -127,16 +128,18 @@ fn events_at<'s, V: View, L: Ledger>(
     Ok(events)
 }
 
-/// The events of a view, in canonical order. The span of each node and edge of the store is asked
-/// once, and names, keys and values are copied once each.
+/// The events of a view, in canonical order. They are the same for every roster that covers the
+/// view. Each span of the roster is asked once, and names, keys and values are copied once each.
 pub fn list_world<V: View, L: Ledger>(
     alloc: Global,
     view: &V,
+    roster: Roster<'_>,
     steps: &mut Steps<L>,
 ) -> Result<EventList, Memory>
+    requires covers { Covers (V.contents view.now) (V.world view.now) roster }
     ensures { IfOk result (λ events. events ≡ (V.world view.now).events) }
 {
-    let listed = list_places(alloc, view, steps)?;
+    let listed = list_places(alloc, view, roster, steps)?;
     events_at(
         alloc,
         view,

@@ -4,7 +4,7 @@ ghost use Rattle.graph_model.specs.Accepting.{event_refusal, type_refusal};
 ghost use Rattle.graph_model.specs.Interval.{is_inside};
 ghost use Rattle.graph_model.specs.World.{put_type};
 ghost use Rattle.graph_store.specs.Contents.{base_of};
-ghost use Rattle.graph_store.specs.declared.judging.StoreRefusal.TheVariants.{Memory as MemoryWanting};
+ghost use Rattle.graph_store.specs.declared.judging.StoreRefusal.TheVariants.{Memory as NoMemory};
 ghost use Rattle.world_laws.specs.Storable.{IsStorable};
 
 use graph_model::{Bounds, Event, EventList, Memory, Model, Name, TypeList};
@@ -15,7 +15,7 @@ use time_column::Steps;
 
 /// The refusal that is want of memory.
 fn only_memory(refusal: StoreRefusal) -> Memory
-    requires { refusal ≡ MemoryWanting }
+    requires { refusal ≡ NoMemory }
 {
     match refusal {
         StoreRefusal::Memory => AllocError,

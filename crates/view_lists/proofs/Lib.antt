@@ -3,6 +3,7 @@ pub mod Sorting
 pub mod ShownOnes
 pub mod Placing
 pub mod SpanPlaces
+pub mod Spent
 pub mod NamedTypes
 pub mod LiveProps
 pub mod BorrowedProps

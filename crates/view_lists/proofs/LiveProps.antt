@@ -28,6 +28,7 @@ use Rattle.world_laws.proofs.Carried.{each_live}
 use Rattle.world_laws.proofs.Distinct.{first_some, less_apart, prop_value-cons, prop_value-none, prop_value-some, any-put_prop, value-put_prop, value-overwrite, last_or-append, Distinct-rising, Distinct-put_prop}
 use Rattle.world_laws.proofs.Live.{live_all, live_events-append, live_after}
 use Rattle.world_laws.proofs.Values.{KeysRise-overwrite, KeysRise-last_props, last_props_value}
+use Rattle.world_laws.proofs.ListItems.{no_images}
 use Rattle.time_history.specs.declared.updates.Kind.{Kind}
 use Rattle.time_history.specs.declared.updates.Kind.TheVariants.{Node as OfNode, Add, Delete}
 use Rattle.time_history.specs.declared.updates.Update.{Update}
@@ -178,12 +179,8 @@ named_or_not names (suc n) name = elim (named_or_not names n name) [
     at_end : (k n : ℕ) → k < suc n → (k ≡ n) ⊎ (k < n)
     at_end k n m = grind arith
 
-nothing_kept : {X Y : Type 0} (f : X → Option Y) (xs : List X) → AllByRecursion (λ x. f x ≡ None) xs → filter_map f xs ≡ []
-nothing_kept f [] h = refl
-nothing_kept f (x ∷ xs) h = rw (h.0, nothing_kept f xs h.1) refl
-
 no_last_value : (name : List ℕ) (xs : List Event) → AllByRecursion (λ x. prop_value name (props_of x) ≡ None) xs → last_value name xs ≡ None
-no_last_value name xs h = ap (last_or None) (nothing_kept (λ x. prop_value name (props_of x)) xs h)
+no_last_value name xs h = ap (last_or None) (no_images (λ x. prop_value name (props_of x)) xs h)
 
 -- ---- as many properties as there are keys
 

@@ -2,7 +2,7 @@
 use Rattle.std.proofs.Common.{◌≡◌, ℕ, zero, suc, ◌+◌, ◌<◌, Bool, true, false, ◌&&◌, ◌||◌, List, [], ◌∷◌, ◌++◌, cond, ◌-◌, ℤ, length, map, take, drop, get_or, set, replicate, eqb, Option, Some, None, refl, sym, ◌∙◌, ap, subst, arith, inl, inr, append-nil}
 use Rattle.std.specs.Prelude.{option_map}
 use Rattle.std.specs.Option.{option_map_or}
-use Rattle.std.specs.List.{filter, find, list_any, flat_map, IsDistinct, All, AllByRecursion}
+use Rattle.std.specs.List.{filter, find, list_any, flat_map, IsDistinct, AllByRecursion}
 use Rattle.std.specs.List.Sorted.{IsPermutation, IsSortedBy}
 use Rattle.std.specs.Cmp.{IsTotalOrder, eq_by_cmp_equiv}
 use Rattle.std.specs.declared.cmp.Ordering.{Ordering}
@@ -16,8 +16,9 @@ use Rattle.std.proofs.lemmas.List.Elements.{recursion_from_All, filter-append}
 use Rattle.std.proofs.lemmas.List.Folds.{list_any-append}
 use Rattle.std.proofs.lemmas.List.Sorted.{list_any-IsPermutation}
 use Rattle.std.proofs.lemmas.Grind.{flat_map-append}
-use Rattle.std.proofs.lemmas.Map.Keys.{IsDistinct-head, IsDistinct-tail, IsDistinct-cons, IsDistinct-from_apart, IsDistinct-IsPermutation}
+use Rattle.std.proofs.lemmas.Map.Keys.{IsDistinct-head, IsDistinct-tail, IsDistinct-cons, IsDistinct-from_apart}
 use Rattle.std.proofs.lemmas.Map.Made.{is_member-filter}
+use Rattle.std.proofs.Math.Bool.{or-false}
 use Rattle.std.proofs.Math.Seq.{take-length}
 use Rattle.graph_model.specs.declared.events.Entity.{Entity}
 use Rattle.graph_model.specs.declared.events.Entity.TheVariants.{Node, Edge}
@@ -31,24 +32,24 @@ use Rattle.graph_model.specs.Spell.{spell}
 use Rattle.graph_model.specs.Rising.{Rises}
 use Rattle.graph_model.specs.World.{World, IsLawful, names_node, type_cmp, type_of, events_of}
 use Rattle.world_laws.proofs.Filters.{each_weaker, each_append, any_weaker}
-use Rattle.world_laws.proofs.Order.{name_exact, same_name-exact, same_name-refl, same_entity-refl, same_entity-exact, then_equal}
+use Rattle.world_laws.proofs.Order.{is_eq-Equal, name_exact, same_name-exact, same_name-refl, same_entity-refl, same_entity-exact, then_equal}
 use Rattle.world_laws.proofs.Members.{both_true}
 use Rattle.world_laws.proofs.Present.{some_passes}
 use Rattle.world_laws.proofs.RisingFixed.{rising_fixed}
+use Rattle.world_laws.proofs.SortedKeys.{distinct_filter, sorted_keys_rise}
+use Rattle.world_laws.proofs.ListItems.{any_map, any_one}
 use Rattle.graph_store.specs.Contents.{Contents, name_at, base_of}
 use Rattle.graph_store.specs.EdgeParts.{parts_at}
 use Rattle.graph_store.proofs.Listed.{list_any-place}
 use Rattle.graph_store.specs.Indexed.{IsIndexed}
 use Rattle.view_trait.specs.Meaning.{IsShown, knows}
 use Rattle.view_trait.proofs.Pairs.{same_number, edge_number}
-use Rattle.view_trait.proofs.NodePairs.{any_map}
-use Rattle.view_trait.proofs.Entities.{all_entities}
 use Rattle.view_lists.specs.declared.listing.ShownEntity.{ShownEntity}
 use Rattle.view_lists.specs.declared.types.TypedNode.{TypedNode}
-use Rattle.view_lists.specs.Listing.{IsShownEntity, entities_of, appears}
+use Rattle.view_lists.specs.Listing.{AreFound, IsShownEntity, entities_of, appears}
 use Rattle.view_lists.specs.Types.{AreMarked, types_listed, typed_node}
-use Rattle.view_lists.proofs.Sorting.{rises_sorted, rises_keys, distinct_keys, is_eq-Equal, distinct_kept, nonempty}
-use Rattle.view_lists.proofs.ShownOnes.{entity_shown, appears_is, exactly_kept}
+use Rattle.view_lists.proofs.Sorting.{nonempty}
+use Rattle.view_lists.proofs.ShownOnes.{entity_shown, appears_is}
 
 -- ---- flags
 
@@ -67,19 +68,11 @@ flag_set c f flags m indexed lt len before n below = elim (cases_Bool (eqb n m))
         | inl s ↦ absurd (other (same_number c n m indexed below lt (same_name-exact (name_at c.nodes n) (name_at c.nodes m) s)))
         | inr s ↦ s
       ] in
-      get_or-set_other flags m n true false other ∙ (before n below ∙ (or_nothing (f n) ∙ ap (λ t. f n || t) (sym apart)))
+      get_or-set_other flags m n true false other ∙ (before n below ∙ (sym (or-false (f n)) ∙ ap (λ t. f n || t) (sym apart)))
 ]
-  where
-    or_nothing : (b : Bool) → b ≡ (b || false)
-    or_nothing true = refl
-    or_nothing false = refl
 
 any_push : (p : Entity → Bool) (es : List Entity) (e : Entity) → list_any p (es ++ e ∷ []) ≡ (list_any p es || p e)
-any_push p [] e = last (p e)
-  where
-    last : (b : Bool) → (b || false) ≡ b
-    last true = refl
-    last false = refl
+any_push p [] e = or-false (p e)
 any_push p (f ∷ es) e = ap (λ t. p f || t) (any_push p es e) ∙ joined (p f) (list_any p es) (p e)
   where
     joined : (a b d : Bool) → (a || (b || d)) ≡ ((a || b) || d)
@@ -140,23 +133,15 @@ any_same xs ys h p = both_true (list_any p xs) (list_any p ys) (among xs ys h) (
         let b = some_passes (same_entity a.0) those (sym (k a.0) ∙ a.2 (same_entity a.0) (same_entity-refl a.0)) in
         b.2 p (subst (λ z. p z ≡ true) (same_entity-exact a.0 b.0 b.1) a.1)
 
-any_one : {X : Type 0} (p : X → Bool) (C : Type 0) (xs : List X) → AllByRecursion (λ x. p x ≡ true → C) xs → list_any p xs ≡ true → C
-any_one p C [] k h = absurd (true≢false (sym h))
-any_one p C (x ∷ xs) k h = elim (or_cases (p x) (list_any p xs) h) [ inl e ↦ k.0 e | inr e ↦ any_one p C xs k.1 e ]
-
-first_or : (b : Bool) → (b || false) ≡ true → b ≡ true
-first_or true h = refl
-first_or false h = h
-
 -- a node that a known entity names has a number
 known_ends : (c : Contents) (name : List ℕ) (e : Entity) → IsIndexed c → knows c e ≡ true → involves name e ≡ true → list_any (same_name name) c.nodes ≡ true
-known_ends c name (Node other) indexed h k = ap (λ z. list_any (same_name z) c.nodes) (same_name-exact name other (first_or (same_name name other) k)) ∙ h
+known_ends c name (Node other) indexed h k = ap (λ z. list_any (same_name z) c.nodes) (same_name-exact name other (sym (or-false (same_name name other)) ∙ k)) ∙ h
 known_ends c name (Edge edge) indexed h k =
     let r = edge_number c edge h in
     let within = indexed.within r.0 r.1 in
     elim (or_cases (same_name name edge.src) (same_name name edge.dst || false) k) [
       | inl e ↦ list_any-place (same_name name) c.nodes (parts_at c.edges r.0).src [] within.0 (ap (λ (x : EdgeName). same_name name x.src) r.2 ∙ e)
-      | inr e ↦ list_any-place (same_name name) c.nodes (parts_at c.edges r.0).dst [] within.1 (ap (λ (x : EdgeName). same_name name x.dst) r.2 ∙ first_or (same_name name edge.dst) e)
+      | inr e ↦ list_any-place (same_name name) c.nodes (parts_at c.edges r.0).dst [] within.1 (ap (λ (x : EdgeName). same_name name x.dst) r.2 ∙ (sym (or-false (same_name name edge.dst)) ∙ e))
     ]
 
 take_nothing : (n : ℕ) → take {A = Event} n [] ≡ []
@@ -178,11 +163,11 @@ emptied : (xs : List Event) → nonempty xs ≡ false → xs ≡ []
 emptied [] h = refl
 emptied (x ∷ xs) h = cc
 
-module _ (c : Contents) (w : World) (shown : IsShown c w) (xs : List ShownEntity) (entities : entities_of xs ≡ filter (appears w) (all_entities c)) where
+module _ (c : Contents) (w : World) (shown : IsShown c w) (xs : List ShownEntity) (found : AreFound c w xs) where
   -- the shown entities name what the world's events do
   pub named_shown : (name : List ℕ) → list_any (involves name) (entities_of xs) ≡ names_node w.events name
   named_shown name =
-      any_same (entities_of xs) (map entity_of w.events) (λ e. ap (list_any (same_entity e)) entities ∙ (exactly_kept c w shown e ∙ sym (any_map (same_entity e) entity_of w.events))) (involves name)
+      any_same (entities_of xs) (map entity_of w.events) (λ e. found.exactly e ∙ sym (any_map (same_entity e) entity_of w.events)) (involves name)
       ∙ any_map (involves name) entity_of w.events
 
   -- a named node has a number
@@ -202,19 +187,19 @@ module _ (c : Contents) (w : World) (shown : IsShown c w) (xs : List ShownEntity
   ]
 
   -- the accepted events name it too
-  pub named_base : All (IsShownEntity c w) xs → (name : List ℕ) → names_node w.events name ≡ true → names_node (base_of c).events name ≡ true
-  named_base parts name h =
+  pub named_base : (name : List ℕ) → names_node w.events name ≡ true → names_node (base_of c).events name ≡ true
+  named_base name h =
       let a = some_passes (λ (x : Event). involves name (entity_of x)) w.events h in
       let e = entity_of a.0 in
       let there : appears w e ≡ true = a.2 (is_about e) (same_entity-refl e) in
-      let among : list_any (λ (s : ShownEntity). same_entity e (entity_shown s)) xs ≡ true = sym (any_map (same_entity e) entity_shown xs) ∙ (ap (list_any (same_entity e)) entities ∙ (exactly_kept c w shown e ∙ there)) in
+      let among : list_any (λ (s : ShownEntity). same_entity e (entity_shown s)) xs ≡ true = sym (any_map (same_entity e) entity_shown xs) ∙ (found.exactly e ∙ there) in
       any_one (λ (s : ShownEntity). same_entity e (entity_shown s)) (names_node (base_of c).events name ≡ true) xs
       (each_weaker (IsShownEntity c w) (λ (s : ShownEntity). same_entity e (entity_shown s) ≡ true → names_node (base_of c).events name ≡ true)
       (λ s part k.
       let is : e ≡ entity_shown s = same_entity-exact e (entity_shown s) k in
       let old : appears (base_of c) (entity_shown s) ≡ true = base_appears s part (ap (appears w) (sym is) ∙ there) in
       any_weaker (is_about (entity_shown s)) (λ (y : Event). involves name (entity_of y)) (λ y m. ap (involves name) (sym (same_entity-exact (entity_shown s) (entity_of y) m) ∙ sym is) ∙ a.1) (base_of c).events old)
-      xs (recursion_from_All (IsShownEntity c w) xs parts)) among
+      xs (recursion_from_All (IsShownEntity c w) xs found.parts)) among
 
 -- ---- types that are listed
 
@@ -259,10 +244,6 @@ none_other t s (y ∷ ys) is h =
     let apart : same_name t.0 y.0 ≡ false = ap (λ z. same_name z y.0) is ∙ ap is_eq h.0 in
     rw (other_name t y apart) (none_other t s ys is h.1)
 
-or_nothing : (b : Bool) → (b || false) ≡ b
-or_nothing true = refl
-or_nothing false = refl
-
 -- a type is among types that rise where it is the type of its node
 any_type : (t : List ℕ × List ℕ) (xs : List (List ℕ × List ℕ)) → Rises type_cmp xs → list_any (same_both t) xs ≡ has (type_of xs t.0) t.1
 any_type t [] h = refl
@@ -272,7 +253,7 @@ any_type t (s ∷ xs) h = by (same_name t.0 s.0) refl (any_type t xs h.1)
     by true e rest =
         let none = none_other t s xs (same_name-exact t.0 s.0 e) h.0 in
         ap (λ b. same_both t s || b) none
-        ∙ (or_nothing (same_both t s) ∙ (same_first t s e ∙ sym (ap (λ b. has (option_map (λ (u : List ℕ × List ℕ). u.1) (cond b (Some s) (find (λ (u : List ℕ × List ℕ). same_name t.0 u.0) xs))) t.1) e)))
+        ∙ (or-false (same_both t s) ∙ (same_first t s e ∙ sym (ap (λ b. has (option_map (λ (u : List ℕ × List ℕ). u.1) (cond b (Some s) (find (λ (u : List ℕ × List ℕ). same_name t.0 u.0) xs))) t.1) e)))
     by false e rest =
         ap (λ b. b || list_any (same_both t) xs) (other_name t s e)
         ∙ (rest ∙ sym (ap (λ b. has (option_map (λ (u : List ℕ × List ℕ). u.1) (cond b (Some s) (find (λ (u : List ℕ × List ℕ). same_name t.0 u.0) xs))) t.1) e))
@@ -301,14 +282,14 @@ any_one_typed t types name e = by (type_of types name) ∙ ap (λ z. has (type_o
   where
     by : (o : Option (List ℕ)) → list_any (same_both t) (option_map_or (λ kind. (name, kind) ∷ []) o []) ≡ has o t.1
     by None = refl
-    by (Some kind) = or_nothing (same_both t (name, kind)) ∙ same_first t (name, kind) e
+    by (Some kind) = or-false (same_both t (name, kind)) ∙ same_first t (name, kind) e
 
 none_typed : (t : List ℕ × List ℕ) (types : List (List ℕ × List ℕ)) (name : List ℕ) → same_name t.0 name ≡ false → list_any (same_both t) (typed_node types name) ≡ false
 none_typed t types name e = by (type_of types name)
   where
     by : (o : Option (List ℕ)) → list_any (same_both t) (option_map_or (λ kind. (name, kind) ∷ []) o []) ≡ false
     by None = refl
-    by (Some kind) = or_nothing (same_both t (name, kind)) ∙ other_name t (name, kind) e
+    by (Some kind) = or-false (same_both t (name, kind)) ∙ other_name t (name, kind) e
 
 any_typed : (t : List ℕ × List ℕ) (types : List (List ℕ × List ℕ)) (names : List (List ℕ)) → list_any (same_both t) (flat_map (typed_node types) names) ≡ (list_any (same_name t.0) names && has (type_of types t.0) t.1)
 any_typed t types [] = refl
@@ -368,17 +349,14 @@ and_same false false true k = refl
 and_same false false false k = refl
 
 -- the types of the named nodes, sorted, are those of the world
-pub types_sorted : (c : Contents) (w : World) (shown : IsShown c w) (xs : List ShownEntity) → IsLawful (base_of c) → entities_of xs ≡ filter (appears w) (all_entities c) → All (IsShownEntity c w) xs → (ts ys : List TypedNode)
+pub types_sorted : (c : Contents) (w : World) (shown : IsShown c w) (xs : List ShownEntity) → IsLawful (base_of c) → AreFound c w xs → (ts ys : List TypedNode)
     → types_listed ts ≡ flat_map (typed_node c.types) (filter (names_node w.events) c.nodes) → IsPermutation ts ys → IsSortedBy (λ (s t : TypedNode). is_lt (name_cmp s.node.now t.node.now)) ys → types_listed ys ≡ w.types
-types_sorted c w shown xs lawful entities parts ts ys is moved sorted =
+types_sorted c w shown xs lawful found ts ys is moved sorted =
     let names = filter (names_node w.events) c.nodes in
     let listed = flat_map (typed_node c.types) names in
     let base_types = (base_of c).types in
-    let key : TypedNode → List ℕ = λ (t : TypedNode). t.node.now in
-    let once : IsDistinct (λ (s t : List ℕ × List ℕ). same_name s.0 t.0) (types_listed ts) = subst (IsDistinct (λ (s t : List ℕ × List ℕ). same_name s.0 t.0)) (sym is) (distinct_typed c.types names (distinct_kept same_name (names_node w.events) c.nodes shown.indexed.node_names)) in
-    let still : IsDistinct (λ (s t : TypedNode). same_name s.node.now t.node.now) ys =
-    IsDistinct-IsPermutation (λ (s t : TypedNode). same_name s.node.now t.node.now) (λ s t. name_equiv.symm s.node.now t.node.now) ts ys moved (distinct_keys type_shown (λ (s t : List ℕ × List ℕ). same_name s.0 t.0) ts once) in
-    let rise : Rises type_cmp (types_listed ys) = rises_keys type_shown type_cmp ys (rises_sorted (λ (s t : TypedNode). name_cmp s.node.now t.node.now) (on_total key name_total) ys still sorted) in
+    let once : IsDistinct (λ (s t : List ℕ × List ℕ). same_name s.0 t.0) (types_listed ts) = subst (IsDistinct (λ (s t : List ℕ × List ℕ). same_name s.0 t.0)) (sym is) (distinct_typed c.types names (distinct_filter same_name (names_node w.events) c.nodes shown.indexed.node_names)) in
+    let rise : Rises type_cmp (types_listed ys) = sorted_keys_rise type_shown type_cmp (on_total (λ (t : List ℕ × List ℕ). t.0) name_total) ts ys once moved sorted in
     rising_fixed both_cmp both_total both_exact (types_listed ys) w.types (both_rise (types_listed ys) rise) (both_rise w.types shown.lawful.types_rise)
     (λ t.
     any_map (same_both t) type_shown ys
@@ -387,8 +365,8 @@ types_sorted c w shown xs lawful entities parts ts ys is moved sorted =
     ∙ (ap (list_any (same_both t)) is
     ∙ (any_typed t c.types names
     ∙ (ap (λ b. b && has (type_of c.types t.0) t.1) (is_member-filter name_equiv (names_node w.events) t.0 (λ n k. ap (names_node w.events) (same_name-exact t.0 n k)) c.nodes)
-    ∙ (and_known (names_node w.events t.0) (list_any (same_name t.0) c.nodes) (has (type_of c.types t.0) t.1) (named_known c w shown xs entities t.0)
-    ∙ (and_same (names_node w.events t.0) (has (type_of c.types t.0) t.1) (has (type_of base_types t.0) t.1) (λ k. ap (λ o. has o t.1) (sym (type_kept (names_node (base_of c).events) t.0 c.types (named_base c w shown xs entities parts t.0 k))))
+    ∙ (and_known (names_node w.events t.0) (list_any (same_name t.0) c.nodes) (has (type_of c.types t.0) t.1) (named_known c w shown xs found t.0)
+    ∙ (and_same (names_node w.events t.0) (has (type_of c.types t.0) t.1) (has (type_of base_types t.0) t.1) (λ k. ap (λ o. has o t.1) (sym (type_kept (names_node (base_of c).events) t.0 c.types (named_base c w shown xs found t.0 k))))
     ∙ (ap (λ b. b && names_node w.events t.0) (sym (any_type t base_types lawful.types_rise))
     ∙ (sym (any_kept (names_node w.events) t base_types)
     ∙ sym (ap (list_any (same_both t)) shown.types)))))))))))

@@ -1,8 +1,8 @@
 -- Places of events, one entity after another, and put in order.
-use Rattle.std.proofs.Common.{◌≡◌, ℕ, suc, ◌+◌, ◌<◌, Bool, true, false, List, [], ◌∷◌, ◌++◌, cond, length, map, get_or, refl, sym, ◌∙◌, ap, subst, arith, append-nil, append_assoc}
+use Rattle.std.proofs.Common.{◌≡◌, ℕ, suc, ◌+◌, ◌<◌, true, false, List, [], ◌∷◌, ◌++◌, length, map, get_or, refl, sym, ◌∙◌, ap, subst, arith, append-nil, append_assoc}
 use Rattle.std.specs.List.{list_any, flat_map, All, AllByRecursion}
 use Rattle.std.specs.List.Sorted.{IsPermutation, IsSortedBy}
-use Rattle.std.specs.Cmp.{IsTotalOrder, nat_cmp_is}
+use Rattle.std.specs.Cmp.{IsTotalOrder}
 use Rattle.std.specs.FinMap.{nat_cmp-IsAntisymmetric, int_cmp-IsAntisymmetric}
 use Rattle.std.specs.declared.cmp.Ordering.{Ordering}
 use Rattle.std.specs.declared.cmp.Ordering.TheVariants.{Less, Equal, Greater}
@@ -13,16 +13,18 @@ use Rattle.std.proofs.lemmas.List.Elements.{All-from_recursion}
 use Rattle.graph_model.specs.declared.events.Entity.{Entity}
 use Rattle.graph_model.specs.declared.events.Entity.TheVariants.{Node}
 use Rattle.graph_model.specs.declared.events.Event.{Event}
-use Rattle.graph_model.specs.Entity.{entity_cmp, same_entity, entity_of, is_about, about}
+use Rattle.graph_model.specs.Entity.{entity_cmp, same_entity, entity_of, is_about}
 use Rattle.graph_model.specs.Rising.{in_order, IsInOrder, Rises}
 use Rattle.graph_model.specs.World.{World, IsLawful, event_cmp, arrange, events_of}
 use Rattle.world_laws.proofs.Filters.{each_weaker, each_append, kept_pass}
-use Rattle.world_laws.proofs.InOrder.{each_in_order, IsInOrder-filter, IsInOrder-in_order, in_order_already}
-use Rattle.world_laws.proofs.Order.{event_total, then_equal, same_entity-exact}
-use Rattle.world_laws.proofs.Listed.{about-arrange, about-append, about_none, fixed_by_entities, in_order_from_arranged}
-use Rattle.world_laws.proofs.Carried.{about_one}
+use Rattle.world_laws.proofs.DistinctRising.{distinct_rising}
+use Rattle.world_laws.proofs.InOrder.{each_in_order, IsInOrder-filter}
+use Rattle.world_laws.proofs.Order.{then_equal, same_entity-exact}
+use Rattle.world_laws.proofs.Listed.{about_none, in_order_from_arranged}
 use Rattle.time_history.proofs.Segments.{each_in_map}
 use Rattle.graph_store.specs.Contents.{Contents}
+use Rattle.view_trait.proofs.Entities.{world_of_entities}
+use Rattle.view_trait.proofs.Rising.{less_is}
 use Rattle.view_lists.specs.declared.listing.ShownEntity.{ShownEntity}
 use Rattle.view_lists.specs.declared.listing.EventPlace.{EventPlace}
 use Rattle.view_lists.specs.Listing.{entities_of, appears, AreShown, no_event, event_at, entity_of_place, event_placed, IsPlaced, AreListed, place_cmp, placed_from, all_placed}
@@ -42,9 +44,6 @@ place_exact p q h =
     let b = nat_cmp-IsAntisymmetric p.shown q.shown shown.0 in
     let d = nat_cmp-IsAntisymmetric p.place q.place shown.1 in
     λ k. record { time = a k; shown = b k; place = d k }
-
-less_is : (x y : ℕ) → x < y → nat_cmp x y ≡ Less
-less_is x y h = sym (nat_cmp_is x y Less h)
 
 gt_first : (o r : Ordering) → is_gt (ordering_then o r) ≡ false → is_gt (ordering_then o Less) ≡ false
 gt_first Less r h = refl
@@ -144,37 +143,9 @@ module _ (w : World) (lawful : IsLawful w) where
   alike_all s [] h = tt
   alike_all s (e ∷ es) h = alike_more w e s 0 (events_of w e) es (kept_pass (is_about e) w.events) h.0 (own_in_order e) (alike_all (s + 1) es h.1)
 
-  -- ---- the list of the entities
-
-  about_flat : (e : Entity) (es : List Entity) → Rises entity_cmp es → about e (flat_map (events_of w) es) ≡ cond (list_any (same_entity e) es) (events_of w e) []
-  about_flat e [] h = refl
-  about_flat e (x ∷ es) h =
-      about-append e (events_of w x) (flat_map (events_of w) es)
-      ∙ ((λ i. one i ++ about_flat e es h.1 i) ∙ by (same_entity e x) refl)
-    where
-      one : about e (events_of w x) ≡ cond (same_entity e x) (events_of w x) []
-      one = about_one e x (events_of w x) (each_weaker (λ (y : Event). is_about x y ≡ true) (λ (y : Event). entity_of y ≡ x) (λ y k. sym (same_entity-exact x (entity_of y) k)) (events_of w x) (kept_pass (is_about x) w.events))
-
-      none_after : (ys : List Entity) → AllByRecursion (λ y. entity_cmp x y ≡ Less) ys → list_any (same_entity x) ys ≡ false
-      none_after [] k = refl
-      none_after (y ∷ ys) k = rw (k.0, none_after ys k.1) refl
-
-      by : (t : Bool) → same_entity e x ≡ t → cond (same_entity e x) (events_of w x) [] ++ cond (list_any (same_entity e) es) (events_of w e) [] ≡ cond (list_any (same_entity e) (x ∷ es)) (events_of w e) []
-      by true k =
-          let is : e ≡ x = same_entity-exact e x k in
-          let none : list_any (same_entity e) es ≡ false = ap (λ z. list_any (same_entity z) es) is ∙ none_after es h.0 in
-          rw (k, none) (append-nil (events_of w x) ∙ ap (events_of w) (sym is))
-      by false k = rw k refl
-
-  own_events : (e : Entity) (t : Bool) → appears w e ≡ t → arrange (cond (appears w e) (events_of w e) []) ≡ events_of w e
-  own_events e true k = ap (λ t. arrange (cond t (events_of w e) [])) k ∙ (sym (about-arrange e w.events) ∙ ap (about e) lawful.arranged)
-  own_events e false k = ap (λ t. arrange (cond t (events_of w e) [])) k ∙ sym (about_none e w.events k)
-
+  -- the events of the entities that have some, arranged, are those of the world
   pub whole : (es : List Entity) → Rises entity_cmp es → ((e : Entity) → list_any (same_entity e) es ≡ appears w e) → arrange (flat_map (events_of w) es) ≡ w.events
-  whole es rise exactly =
-      let flat : List Event = flat_map (events_of w) es in
-      fixed_by_entities (arrange flat) w.events (in_order_already event_cmp (arrange flat) (IsInOrder-in_order event_cmp event_total flat)) lawful.arranged
-      (λ e. about-arrange e flat ∙ (ap arrange (about_flat e es rise ∙ ap (λ t. cond t (events_of w e) []) (exactly e)) ∙ own_events e (appears w e) refl))
+  whole es rise exactly = world_of_entities w es lawful.arranged (distinct_rising entity_cmp es rise) (λ e none. about_none e w.events (sym (exactly e) ∙ none))
 
 -- ---- what stands at a place
 

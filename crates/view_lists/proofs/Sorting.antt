@@ -1,21 +1,20 @@
 -- Lists in an order: their images, and sorted lists with the same items.
 use Rattle.std.proofs.Common.{◌≡◌, ℕ, zero, suc, ◌<◌, Bool, true, false, ◌||◌, List, [], ◌∷◌, cond, length, map, get_or, refl, sym, ◌∙◌, ap, arith}
-use Rattle.std.specs.List.{filter, list_any, sum_by, IsDistinct, AllByRecursion}
+use Rattle.std.specs.List.{filter, list_any, sum_by, AllByRecursion}
 use Rattle.std.specs.List.Sorted.{IsPermutation, IsSortedBy}
 use Rattle.std.specs.Cmp.{IsTotalOrder}
 use Rattle.std.specs.declared.cmp.Ordering.{Ordering}
 use Rattle.std.specs.declared.cmp.Ordering.TheVariants.{Less, Equal, Greater}
 use Rattle.std.specs.Ordering.{is_eq, is_lt, is_gt, ordering_reverse}
-use Rattle.std.proofs.lemmas.Bool.{cond-true, cond-false, cond_both}
+use Rattle.std.proofs.lemmas.Bool.{cond-true, cond-false}
 use Rattle.std.proofs.lemmas.Cmp.{tied_itself}
 use Rattle.std.proofs.lemmas.List.Sums.{sum_by-cons}
 use Rattle.std.proofs.lemmas.List.Sorted.{sorted_far, ranks_by, sum_by-IsPermutation}
-use Rattle.std.proofs.lemmas.Map.Keys.{IsDistinct-head, IsDistinct-tail, IsDistinct-cons, IsDistinct-from_apart, apart_from_distinct}
-use Rattle.graph_model.specs.Rising.{put_in_order, in_order, IsInOrder, Rises}
-use Rattle.world_laws.proofs.Filters.{each_kept}
+use Rattle.graph_model.specs.Rising.{put_in_order, in_order, IsInOrder}
 use Rattle.world_laws.proofs.InOrder.{each_in_order, IsInOrder-in_order, fixed_by_filters}
 use Rattle.world_laws.proofs.Arranged.{in_order_permutes}
-use Rattle.graph_store.proofs.EdgeNames.{each_from}
+use Rattle.world_laws.proofs.ListItems.{each_from}
+use Rattle.world_laws.proofs.Order.{is_eq-Equal}
 
 -- ---- images
 
@@ -48,24 +47,10 @@ module _ {X Y : Type 0} (cmp : X → X → Ordering) (other : Y → Y → Orderi
 
 -- ---- what a sort gives
 
-pub is_eq-Equal : (o : Ordering) → is_eq o ≡ true → o ≡ Equal
-is_eq-Equal Less h = cc
-is_eq-Equal Equal h = refl
-is_eq-Equal Greater h = cc
-
 turned : (o p : Ordering) → o ≡ ordering_reverse p → is_lt p ≡ false → is_gt o ≡ false
 turned o Less e h = cc
 turned o Equal e h = ap is_gt e
 turned o Greater e h = ap is_gt e
-
-strictly : (o p : Ordering) → o ≡ ordering_reverse p → is_eq o ≡ false → is_lt p ≡ false → o ≡ Less
-strictly o Less e apart up = cc
-strictly o Equal e apart up = absurd (let no : true ≡ false = sym (ap is_eq e) ∙ apart in cc)
-strictly o Greater e apart up = e
-
-rises_from : {X : Type 0} (cmp : X → X → Ordering) (xs : List X) → ((i j : ℕ) (d : X) → i < j → j < length xs → cmp (get_or xs i d) (get_or xs j d) ≡ Less) → Rises cmp xs
-rises_from cmp [] h = tt
-rises_from cmp (x ∷ xs) h = (each_from (λ y. cmp x y ≡ Less) xs x (λ j below. h zero (suc j) x (omega arith) (omega arith)), rises_from cmp xs (λ i j d less below. h (suc i) (suc j) d (omega arith) (omega arith)))
 
 in_order_from : {X : Type 0} (cmp : X → X → Ordering) (xs : List X) → ((i j : ℕ) (d : X) → i < j → j < length xs → is_gt (cmp (get_or xs i d) (get_or xs j d)) ≡ false) → IsInOrder cmp xs
 in_order_from cmp [] h = tt
@@ -78,13 +63,6 @@ copies (suc n) x = x ∷ copies n x
 module _ {X : Type 0} (cmp : X → X → Ordering) (total : IsTotalOrder cmp) where
   abbrev before : X → X → Bool
   before x y = is_lt (cmp x y)
-
-  -- items that differ, sorted, rise
-  pub rises_sorted : (xs : List X) → IsDistinct (λ x y. is_eq (cmp x y)) xs → IsSortedBy (λ x y. is_lt (cmp x y)) xs → Rises cmp xs
-  rises_sorted xs once sorted = rises_from cmp xs (λ i j d less below.
-      strictly (cmp (get_or xs i d) (get_or xs j d)) (cmp (get_or xs j d) (get_or xs i d)) (total.antisymm (get_or xs i d) (get_or xs j d))
-      (apart_from_distinct (λ x y. is_eq (cmp x y)) xs i j d once less below)
-      (sorted_far before (ranks_by total (λ x. x)) xs sorted i j d (omega arith) below))
 
   in_order_sorted : (xs : List X) → IsSortedBy (λ x y. is_lt (cmp x y)) xs → IsInOrder cmp xs
   in_order_sorted xs sorted = in_order_from cmp xs (λ i j d less below.
@@ -121,33 +99,6 @@ module _ {X : Type 0} (cmp : X → X → Ordering) (total : IsTotalOrder cmp) wh
         (λ k. kept_copies k ys
         ∙ (ap (λ n. copies n k) (sum_by-IsPermutation (one k) xs ys moved ∙ sym (sum_by-IsPermutation (one k) xs (in_order cmp xs) (in_order_permutes cmp xs)))
         ∙ sym (kept_copies k (in_order cmp xs))))
-
--- ---- keys of items
-
-module _ {X K : Type 0} (key : X → K) where
-  pub rises_keys : (cmp : K → K → Ordering) (xs : List X) → Rises (λ x y. cmp (key x) (key y)) xs → Rises cmp (map key xs)
-  rises_keys cmp [] h = tt
-  rises_keys cmp (x ∷ xs) h = (each xs h.0, rises_keys cmp xs h.1)
-    where
-      each : (ys : List X) → AllByRecursion (λ y. cmp (key x) (key y) ≡ Less) ys → AllByRecursion (λ y. cmp (key x) y ≡ Less) (map key ys)
-      each [] k = tt
-      each (y ∷ ys) k = (k.0, each ys k.1)
-
-  pub distinct_keys : (same : K → K → Bool) (xs : List X) → IsDistinct same (map key xs) → IsDistinct (λ x y. same (key x) (key y)) xs
-  distinct_keys same [] h = IsDistinct-from_apart (λ x y. same (key x) (key y)) [] (λ i j d less below. absurd (omega arith))
-  distinct_keys same (x ∷ xs) h = IsDistinct-cons (λ x y. same (key x) (key y)) x xs (each xs (IsDistinct-head same (key x) (map key xs) h)) (distinct_keys same xs (IsDistinct-tail same (key x) (map key xs) h))
-    where
-      each : (ys : List X) → AllByRecursion (λ y. same (key x) y ≡ false) (map key ys) → AllByRecursion (λ y. same (key x) (key y) ≡ false) ys
-      each [] k = tt
-      each (y ∷ ys) k = (k.0, each ys k.1)
-
-pub distinct_kept : {X : Type 0} (same : X → X → Bool) (p : X → Bool) (xs : List X) → IsDistinct same xs → IsDistinct same (filter p xs)
-distinct_kept same p [] h = h
-distinct_kept same p (x ∷ xs) h =
-    let more = distinct_kept same p xs (IsDistinct-tail same x xs h) in
-    cond_both (p x) (x ∷ filter p xs) (filter p xs) (IsDistinct same)
-    (λ e. IsDistinct-cons same x (filter p xs) (each_kept (λ y. same x y ≡ false) p xs (IsDistinct-head same x xs h)) more)
-    (λ e. more)
 
 -- ---- whether something is there
 

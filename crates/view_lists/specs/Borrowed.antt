@@ -14,4 +14,8 @@ props_borrowed ps = map (λ (p : Property). (p.key.now, p.value.now)) ps
 -- an event with these properties; a deletion has none
 abbrev pub event_borrowed : BorrowedEvent → List (List ℕ × Value) → Event
 event_borrowed x props =
-    record { time = x.time; order = x.order; what = what_told (entity_named x.subject) x.kind props }
+    record {
+      time = x.time;
+      order = x.order;
+      what = what_told (entity_named x.subject) x.kind props;
+    }

@@ -1,6 +1,7 @@
 -- The events of a world, as places among the events of the nodes and edges that have some.
-use Rattle.std.specs.Prelude.{ℕ, pos, List, [], ◌∷◌, ◌++◌, ◌+◌, ◌≡◌, ◌<◌, Bool, length, map, slice_index_or}
-use Rattle.std.specs.List.{list_any, All}
+use Rattle.std.specs.Prelude.{ℕ, pos, List, [], ◌∷◌, ◌++◌, ◌+◌, ◌≡◌, ◌<◌, Bool, length, map}
+use Rattle.std.specs.Prelude.{slice_index_or}
+use Rattle.std.specs.List.{list_any, All, IsDistinct}
 use Rattle.std.specs.declared.cmp.Ordering.{Ordering}
 use Rattle.std.specs.Ordering.{ordering_then, int_cmp, nat_cmp}
 use Rattle.graph_model.specs.declared.events.Entity.{Entity}
@@ -42,6 +43,12 @@ entities_of xs = map (λ (s : ShownEntity). entity_named s.subject) xs
 abbrev pub appears : World → Entity → Bool
 appears w e = list_any (is_about e) w.events
 
+-- the nodes and edges that have events in a world, each once
+pub record AreFound (c : Contents) (w : World) (xs : List ShownEntity) : Type 0 where
+  pub parts : All (IsShownEntity c w) xs
+  pub once : IsDistinct same_entity (entities_of xs)
+  pub exactly : (e : Entity) → list_any (same_entity e) (entities_of xs) ≡ appears w e
+
 -- the nodes and edges that have events in a world, in order
 pub record AreShown (c : Contents) (w : World) (xs : List ShownEntity) : Type 0 where
   pub parts : All (IsShownEntity c w) xs
@@ -69,7 +76,8 @@ pub record IsPlaced (w : World) (xs : List ShownEntity) (p : EventPlace) : Type 
   pub time : p.time ≡ (event_placed w xs p).time
 
 -- the places of all events of a world, in canonical order
-pub record AreListed (c : Contents) (w : World) (xs : List ShownEntity) (places : List EventPlace) : Type 0 where
+pub record AreListed (c : Contents) (w : World) (xs : List ShownEntity) (places : List EventPlace)
+    : Type 0 where
   pub shown : AreShown c w xs
   pub placed : All (IsPlaced w xs) places
   pub events : map (event_placed w xs) places ≡ w.events

@@ -1,5 +1,6 @@
 //! The events of a view, borrowed from its store.
-ghost use Rattle.std.specs.Prelude.{◌≡◌, ◌∷◌, [], ◌+◌, ◌-◌, ◌<◌, ◌≤◌, ◌==◌, ◌&&◌, false, IfOk, OnOk, length, take, if◌then◌else◌};
+ghost use Rattle.std.specs.Prelude.{◌≡◌, ◌∷◌, [], ◌+◌, ◌-◌, ◌<◌, ◌≤◌, ◌==◌, ◌&&◌, false};
+ghost use Rattle.std.specs.Prelude.{IfOk, OnOk, length, take, if◌then◌else◌};
 ghost use Rattle.std.specs.List.{All, list_any, position_or_len};
 ghost use Rattle.std.specs.Ordering.{is_lt};
 ghost use Rattle.graph_model.specs.Compare.{live_events};
@@ -14,7 +15,8 @@ ghost use Rattle.time_history.specs.Updates.{update_at};
 ghost use Rattle.graph_store.specs.Contents.{key_names_for};
 ghost use Rattle.view_trait.specs.Meaning.{Tells};
 ghost use Rattle.view_lists.specs.Borrowed.{event_borrowed, props_borrowed};
-ghost use Rattle.view_lists.specs.Listing.{entity_named, IsNumbered, IsShownEntity, IsPlaced, event_at, event_placed};
+ghost use Rattle.view_lists.specs.Listing.{entity_named, IsNumbered, IsShownEntity, IsPlaced};
+ghost use Rattle.view_lists.specs.Listing.{event_at, event_placed};
 ghost use Rattle.view_lists.specs.Keyed.{key_count};
 
 use crate::listing::{EventPlace, ShownEntity, Subject};
@@ -43,7 +45,7 @@ pub struct BorrowedEvent<'s> {
 }
 
 /// The history of a node or an edge.
-fn history_of<'s>(store: &'s Store, subject: Subject<'_>) -> &'s History
+pub(crate) fn history_of<'s>(store: &'s Store, subject: Subject<'_>) -> &'s History
     requires { IsNumbered store.now subject }
     ensures tells { Tells store.now (entity_named subject.entry) result.now.updates }
     ensures keys { AreNamed (key_names_for store.now (entity_named subject.entry))

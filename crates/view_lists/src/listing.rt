@@ -1,16 +1,22 @@
 //! The events of a view in canonical order, as places among the events of its nodes and edges.
-ghost use Rattle.std.specs.Prelude.{◌≡◌, ℕ, ◌<◌, ◌+◌, ◌^◌, [], ◌∷◌, ◌++◌, List, length, map, IfOk, OnOk, if◌then◌else◌};
+ghost use Rattle.std.specs.Prelude.{◌≡◌, ℕ, ◌<◌, ◌≤◌, ◌+◌, ◌-◌, ◌*◌, ◌^◌, [], ◌∷◌, ◌++◌, List, length, map};
+ghost use Rattle.std.specs.Prelude.{IfOk, OnOk, if◌then◌else◌};
 ghost use Rattle.std.specs.List.{filter, All};
 ghost use Rattle.graph_model.specs.declared.events.Entity.{Entity};
 ghost use Rattle.graph_model.specs.Entity.{entity_cmp};
+ghost use Rattle.graph_model.specs.Searches.{digits};
 ghost use Rattle.graph_model.specs.World.{events_of};
 ghost use Rattle.time_history.specs.Spans.{IsSpan, spelled};
 ghost use Rattle.time_history.specs.Telling.{Fits};
 ghost use Rattle.time_history.specs.Updates.{update_at};
-ghost use Rattle.view_trait.specs.Meaning.{node_at, edge_at};
-ghost use Rattle.view_trait.proofs.Entities.{all_entities};
-ghost use Rattle.view_lists.specs.Listing.{entity_named, IsShownEntity, entities_of, appears, AreShown, AreListed, place_cmp, placed_from, all_placed};
+ghost use Rattle.view_trait.specs.Coverage.{Covers, edges_among, nodes_among};
+ghost use Rattle.view_trait.specs.Extent.{span_searches};
+ghost use Rattle.view_trait.specs.Meaning.{StepsWithin};
+ghost use Rattle.view_lists.specs.Listing.{entity_named, IsShownEntity, entities_of, appears};
+ghost use Rattle.view_lists.specs.Listing.{AreFound, AreShown, AreListed, place_cmp, placed_from};
+ghost use Rattle.view_lists.specs.Listing.{all_placed};
 
+use crate::borrowed::history_of;
 use graph_model::{Memory, Name};
 use graph_store::{EdgeId, NodeId};
 use std::alloc::Global;
@@ -18,7 +24,7 @@ use std::cmp::Ordering;
 use std::sync::ledger::Ledger;
 use time_column::Steps;
 use time_history::{History, Span};
-use view_trait::View;
+use view_trait::{Roster, View, roster_facts};
 
 /// A node or an edge, by its number in a store and by the names that the store has for it: of an
 /// edge its source, its destination and its layer.
@@ -94,50 +100,60 @@ impl EventPlace {
     }
 }
 
-/// Adds a node with the part of its history that is shown, if it has an event.
+/// Adds a node that the store has and that has an event, with the part of its history that is
+/// shown.
 fn push_node<'s, V: View, L: Ledger>(
     shown: &mut Vec<ShownEntity<'s>>,
     view: &'s V,
     node: NodeId,
     steps: &mut Steps<L>,
 ) -> Result<(), Memory>
-    requires { node.0 < length (V.contents view.now).nodes }
     ensures entities { OnOk result (entities_of shown.new.items
         ≡ entities_of shown.old.items
         ++ filter (appears (V.world view.now))
-        (node_at (V.contents view.now) node.0 ∷ [])) }
+        (nodes_among (V.contents view.now) (node.0 ∷ []))) }
     ensures parts { OnOk result
         (All (IsShownEntity (V.contents view.now) (V.world view.now)) shown.old.items
         → All (IsShownEntity (V.contents view.now) (V.world view.now)) shown.new.items) }
+    ensures cost { StepsWithin steps.old steps.new (V.searches view.now).nodes
+        (length (V.contents view.now).accepted) }
 {
-    let span = view.node_span(node, steps);
-    if view.store().node_history(node).last_kind(span).is_none() {
+    let store = view.store();
+    if node.0 >= store.nodes() {
         return Ok(());
     }
-    let name = view.store().node_name(node);
-    let subject = Subject::Node(node, name);
+    let span = view.node_span(node, steps);
+    if store.node_history(node).last_kind(span).is_none() {
+        return Ok(());
+    }
+    let subject = Subject::Node(node, store.node_name(node));
     shown.push(ShownEntity { subject, span })?;
     Ok(())
 }
 
-/// Adds an edge with the part of its history that is shown, if it has an event.
+/// Adds an edge that the store has and that has an event, with the part of its history that is
+/// shown.
 fn push_edge<'s, V: View, L: Ledger>(
     shown: &mut Vec<ShownEntity<'s>>,
     view: &'s V,
     edge: EdgeId,
     steps: &mut Steps<L>,
 ) -> Result<(), Memory>
-    requires { edge.0 < length (V.contents view.now).edges }
     ensures entities { OnOk result (entities_of shown.new.items
         ≡ entities_of shown.old.items
         ++ filter (appears (V.world view.now))
-        (edge_at (V.contents view.now) edge.0 ∷ [])) }
+        (edges_among (V.contents view.now) (edge.0 ∷ []))) }
     ensures parts { OnOk result
         (All (IsShownEntity (V.contents view.now) (V.world view.now)) shown.old.items
         → All (IsShownEntity (V.contents view.now) (V.world view.now)) shown.new.items) }
+    ensures cost { StepsWithin steps.old steps.new (V.searches view.now).edges
+        (length (V.contents view.now).accepted) }
 {
-    let span = view.edge_span(edge, steps);
     let store = view.store();
+    if edge.0 >= store.edges() {
+        return Ok(());
+    }
+    let span = view.edge_span(edge, steps);
     if store.edge_history(edge).last_kind(span).is_none() {
         return Ok(());
     }
@@ -152,26 +168,29 @@ fn push_edge<'s, V: View, L: Ledger>(
     Ok(())
 }
 
-/// The nodes and edges that have events in a view, by their numbers, nodes first. Each span is
-/// asked once.
+/// The nodes and edges that have events in a view, by their numbers, nodes first. Each span of the
+/// roster is asked once.
 pub(crate) fn shown_by_number<'s, V: View, L: Ledger>(
     alloc: Global,
     view: &'s V,
+    roster: Roster<'_>,
     steps: &mut Steps<L>,
 ) -> Result<Vec<ShownEntity<'s>>, Memory>
-    ensures entities { IfOk result (λ shown.
-        entities_of shown.items
-        ≡ filter (appears (V.world view.now)) (all_entities (V.contents view.now))) }
-    ensures parts { IfOk result (λ shown.
-        All (IsShownEntity (V.contents view.now) (V.world view.now)) shown.items) }
+    requires covers { Covers (V.contents view.now) (V.world view.now) roster }
+    ensures found { IfOk result (λ shown.
+        AreFound (V.contents view.now) (V.world view.now) shown.items) }
+    ensures cost { OnOk result (StepsWithin steps.old steps.new
+        (span_searches (V.contents view.now) roster.entry (V.searches view.now))
+        (length (V.contents view.now).accepted)) }
 {
     let store = view.store();
+    roster_facts(store, roster);
     let mut shown = Vec::new(alloc);
-    for n in 0..store.nodes() {
-        push_node(&mut shown, view, NodeId(n), steps)?;
+    for i in 0..roster.node_count_on(store) {
+        push_node(&mut shown, view, roster.node(store, i), steps)?;
     }
-    for e in 0..store.edges() {
-        push_edge(&mut shown, view, EdgeId(e), steps)?;
+    for j in 0..roster.edge_count_on(store) {
+        push_edge(&mut shown, view, roster.edge(store, j), steps)?;
     }
     Ok(shown)
 }
@@ -210,12 +229,13 @@ fn place_at<L: Ledger>(
     steps: &mut Steps<L>,
 ) -> EventPlace
     requires { i < length history.now.updates }
-    ensures { result
+    ensures place { result
         ≡ record {
           time = (update_at history.now.updates i).time;
           shown = shown;
           place = place;
         } }
+    ensures cost { steps.new ≡ steps.old + 1 }
 {
     let time = history.time_at(i, steps);
     EventPlace { time, shown, place }
@@ -231,11 +251,12 @@ fn push_span<L: Ledger>(
     steps: &mut Steps<L>,
 ) -> Result<(), Memory>
     requires { IsSpan history.now.updates span }
-    ensures { OnOk result ((x : Entity) (names : ℕ → List ℕ)
+    ensures places { OnOk result ((x : Entity) (names : ℕ → List ℕ)
         → Fits x history.now.updates
         → places.new.items
         ≡ places.old.items
         ++ placed_from shown 0 (spelled x names history.now.updates span lo)) }
+    ensures cost { OnOk result (steps.new ≤ steps.old + (span.to - span.from)) }
 {
     let count = push_carried(places, span, lo, shown)?;
     for i in span.from..span.to {
@@ -253,21 +274,17 @@ fn push_events<V: View, L: Ledger>(
     steps: &mut Steps<L>,
 ) -> Result<(), Memory>
     requires { IsShownEntity (V.contents view.now) (V.world view.now) one }
-    ensures { OnOk result (places.new.items
+    ensures places { OnOk result (places.new.items
         ≡ places.old.items
         ++ placed_from shown 0
         (events_of (V.world view.now) (entity_named one.entry.subject))) }
+    ensures cost { OnOk result (steps.new ≤ steps.old
+        + length (events_of (V.world view.now) (entity_named one.entry.subject))) }
 {
     let store = view.store();
     let lo = view.bounds().lo();
-    match one.subject {
-        Subject::Node(node, _) => {
-            push_span(places, store.node_history(node), one.span, lo, shown, steps)
-        }
-        Subject::Edge(edge, _, _, _) => {
-            push_span(places, store.edge_history(edge), one.span, lo, shown, steps)
-        }
-    }
+    let history = history_of(store, one.subject);
+    push_span(places, history, one.span, lo, shown, steps)
 }
 
 /// The places of the events of nodes and edges, one node or edge after another.
@@ -278,8 +295,9 @@ fn places_by_entity<V: View, L: Ledger>(
     steps: &mut Steps<L>,
 ) -> Result<Vec<EventPlace>, Memory>
     requires { AreShown (V.contents view.now) (V.world view.now) shown.now }
-    ensures { IfOk result (λ places.
+    ensures places { IfOk result (λ places.
         places.items ≡ all_placed (V.world view.now) 0 (entities_of shown.now)) }
+    ensures cost { IfOk result (λ places. steps.new ≤ steps.old + length places.items) }
 {
     let store = view.store();
     let _few_nodes = store.nodes();
@@ -299,12 +317,11 @@ pub(crate) fn places_in_order<'s, V: View, L: Ledger>(
     mut shown: Vec<ShownEntity<'s>>,
     steps: &mut Steps<L>,
 ) -> Result<ShownEvents<'s>, Memory>
-    requires entities { entities_of shown.items
-        ≡ filter (appears (V.world view.now)) (all_entities (V.contents view.now)) }
-    requires parts { All (IsShownEntity (V.contents view.now) (V.world view.now)) shown.items }
-    ensures { IfOk result (λ listed.
+    requires { AreFound (V.contents view.now) (V.world view.now) shown.items }
+    ensures listed { IfOk result (λ listed.
         AreListed (V.contents view.now) (V.world view.now)
         listed.shown.items listed.events.items) }
+    ensures cost { OnOk result (steps.new ≤ steps.old + length (V.world view.now).events) }
 {
     shown.sort_unstable_by(|a, b| a.subject.compare(&b.subject));
     let mut events = places_by_entity(alloc, view, shown.as_slice(), steps)?;
@@ -313,16 +330,23 @@ pub(crate) fn places_in_order<'s, V: View, L: Ledger>(
 }
 
 /// The nodes and edges that have events in a view, and the places of all events in canonical order.
-/// Each span is asked once. An event takes 16 bytes while it is listed.
+/// They are the same for every roster that covers the view. Each span of the roster is asked once.
+/// An event takes 16 bytes while it is listed.
 pub fn list_places<'s, V: View, L: Ledger>(
     alloc: Global,
     view: &'s V,
+    roster: Roster<'_>,
     steps: &mut Steps<L>,
 ) -> Result<ShownEvents<'s>, Memory>
-    ensures { IfOk result (λ listed.
+    requires covers { Covers (V.contents view.now) (V.world view.now) roster }
+    ensures listed { IfOk result (λ listed.
         AreListed (V.contents view.now) (V.world view.now)
         listed.shown.items listed.events.items) }
+    ensures cost { let c = V.contents view.now in
+        let searches = span_searches c roster.entry (V.searches view.now) in
+        OnOk result (steps.new ≤ steps.old + searches * (digits (length c.accepted) + 1)
+        + length (V.world view.now).events) }
 {
-    let shown = shown_by_number(alloc, view, steps)?;
+    let shown = shown_by_number(alloc, view, roster, steps)?;
     places_in_order(alloc, view, shown, steps)
 }

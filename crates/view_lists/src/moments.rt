@@ -4,7 +4,8 @@ ghost use Rattle.graph_model.specs.World.{events_of};
 ghost use Rattle.time_history.specs.Spans.{IsSpan};
 ghost use Rattle.time_history.specs.Updates.{update_at};
 ghost use Rattle.view_trait.specs.Meaning.{node_at, edge_at};
-ghost use Rattle.view_lists.specs.Moments.{moment_of_event, moment_told, carried_moments, moments_told};
+ghost use Rattle.view_lists.specs.Moments.{moment_of_event, moment_told, carried_moments};
+ghost use Rattle.view_lists.specs.Moments.{moments_told};
 
 use graph_model::Memory;
 use graph_store::{EdgeId, NodeId};

@@ -1,11 +1,13 @@
 //! The types of the nodes that a view names.
-ghost use Rattle.std.specs.Prelude.{◌≡◌, ℕ, ◌<◌, [], ◌∷◌, ◌++◌, List, true, length, slice_set, IfOk, OnOk, if◌then◌else◌};
+ghost use Rattle.std.specs.Prelude.{◌≡◌, ℕ, ◌<◌, [], ◌∷◌, ◌++◌, List, true, length, slice_set};
+ghost use Rattle.std.specs.Prelude.{IfOk, OnOk, if◌then◌else◌};
 ghost use Rattle.std.specs.List.{filter, flat_map, All};
 ghost use Rattle.graph_model.specs.declared.events.Entity.{Entity};
 ghost use Rattle.graph_model.specs.World.{names_node};
 ghost use Rattle.graph_store.specs.Contents.{name_at};
-ghost use Rattle.view_trait.proofs.Entities.{all_entities};
-ghost use Rattle.view_lists.specs.Listing.{entity_named, IsNumbered, IsShownEntity, entities_of, appears};
+ghost use Rattle.view_trait.specs.Coverage.{Covers};
+ghost use Rattle.view_lists.specs.Listing.{entity_named, AreFound, IsNumbered, IsShownEntity};
+ghost use Rattle.view_lists.specs.Listing.{entities_of};
 ghost use Rattle.view_lists.specs.Types.{AreMarked, types_listed, typed_node};
 
 use crate::listing::{ShownEntity, Subject, shown_by_number};
@@ -14,7 +16,7 @@ use graph_store::{NodeId, Store};
 use std::alloc::Global;
 use std::sync::ledger::Ledger;
 use time_column::Steps;
-use view_trait::View;
+use view_trait::{Roster, View};
 
 /// A node and its type, by the names that the store has for them.
 #[derive(Clone, Copy)]
@@ -101,8 +103,7 @@ fn typed_nodes<'s, V: View>(
     flags: &[bool],
 ) -> Result<Vec<TypedNode<'s>>, Memory>
     requires marked { AreMarked (V.contents view.now) (entities_of shown.now) flags.now }
-    requires entities { entities_of shown.now
-        ≡ filter (appears (V.world view.now)) (all_entities (V.contents view.now)) }
+    requires found { AreFound (V.contents view.now) (V.world view.now) shown.now }
     ensures { IfOk result (λ typed.
         types_listed typed.items
         ≡ flat_map (typed_node (V.contents view.now).types)
@@ -117,15 +118,13 @@ fn typed_nodes<'s, V: View>(
 }
 
 /// The nodes that the events of a view name and that have types, rising by the node's name. The
-/// nodes and edges are those that have events in the view, by their numbers.
+/// nodes and edges are those that have events in the view.
 pub(crate) fn typed_in_order<'s, V: View>(
     alloc: Global,
     view: &'s V,
     shown: &[ShownEntity<'_>],
 ) -> Result<Vec<TypedNode<'s>>, Memory>
-    requires entities { entities_of shown.now
-        ≡ filter (appears (V.world view.now)) (all_entities (V.contents view.now)) }
-    requires parts { All (IsShownEntity (V.contents view.now) (V.world view.now)) shown.now }
+    requires { AreFound (V.contents view.now) (V.world view.now) shown.now }
     ensures { IfOk result (λ typed. types_listed typed.items ≡ (V.world view.now).types) }
 {
     let store = view.store();
@@ -136,15 +135,17 @@ pub(crate) fn typed_in_order<'s, V: View>(
     Ok(typed)
 }
 
-/// The nodes that the events of a view name and that have types, rising by the node's name. The
-/// span of each node and edge of the store is asked once.
+/// The nodes that the events of a view name and that have types, rising by the node's name. They
+/// are the same for every roster that covers the view. Each span of the roster is asked once.
 pub fn list_typed_nodes<'s, V: View, L: Ledger>(
     alloc: Global,
     view: &'s V,
+    roster: Roster<'_>,
     steps: &mut Steps<L>,
 ) -> Result<Vec<TypedNode<'s>>, Memory>
+    requires covers { Covers (V.contents view.now) (V.world view.now) roster }
     ensures { IfOk result (λ typed. types_listed typed.items ≡ (V.world view.now).types) }
 {
-    let shown = shown_by_number(alloc, view, steps)?;
+    let shown = shown_by_number(alloc, view, roster, steps)?;
     typed_in_order(alloc, view, shown.as_slice())
 }

@@ -1,5 +1,5 @@
 -- Rosters that cover worlds cover windows of these and what is kept of them.
-use Rattle.std.proofs.Common.{◌≡◌, ◌⊎◌, ℕ, ℤ, zero, suc, ◌+◌, ◌<◌, ◌≤◌, Bool, true, false, List, [], cond, length, refl, sym, ◌∙◌, ap, arith, inl, inr}
+use Rattle.std.proofs.Common.{◌≡◌, ◌⊎◌, ℕ, ℤ, zero, suc, ◌+◌, ◌<◌, ◌≤◌, Bool, true, false, [], length, refl, sym, ◌∙◌, ap, arith, inl, inr}
 use Rattle.std.specs.Prelude.{◌==◌, slice_get, Some}
 use Rattle.std.specs.List.{list_any, range_with_len}
 use Rattle.std.proofs.lemmas.Bool.{eq-eqb, or_left, or_right, true≢false}
@@ -13,13 +13,14 @@ use Rattle.graph_model.specs.Presence.{edge_present, alive_at}
 use Rattle.graph_model.specs.Window.{window, clip_list}
 use Rattle.graph_model.specs.World.{World, IsLawful, events_of}
 use Rattle.world_laws.proofs.Windows.{events_of-window}
-use Rattle.world_laws.proofs.Kept.{about-kept, clip_nothing}
+use Rattle.world_laws.proofs.Kept.{clip_nothing}
 use Rattle.graph_store.specs.Contents.{Contents}
 use Rattle.view_trait.specs.Coverage.{Covers, edge_count_on, edges_on, node_count_on, nodes_on}
 use Rattle.view_trait.specs.Meaning.{node_at, edge_at, edge_named}
 use Rattle.view_trait.specs.Numbered.{is_listed}
 use Rattle.view_trait.specs.declared.rosters.Roster.{Roster}
 use Rattle.view_trait.specs.declared.rosters.Roster.TheVariants.{All as Whole, Some as Only}
+use Rattle.view_trait.proofs.Shown.{cond_nothing, events_of-keep}
 
 -- ---- what is on a roster
 
@@ -73,11 +74,7 @@ Covers-window c w a b r lawful h = record {
 
 -- nor in what is kept
 nothing_kept : (p : Entity → Bool) (w : World) (x : Entity) → events_of w x ≡ [] → events_of (keep p w) x ≡ []
-nothing_kept p w x h = about-kept p x w.events ∙ either (p x) (events_of w x) h
-  where
-    either : (t : Bool) (xs : List Event) → xs ≡ [] → cond t xs [] ≡ []
-    either true xs k = k
-    either false xs k = refl
+nothing_kept p w x h = events_of-keep p w x ∙ cond_nothing (p x) (events_of w x) h
 
 pub Covers-keep : (c : Contents) (w : World) (p : Entity → Bool) (r : Roster) → Covers c w r → Covers c (keep p w) r
 Covers-keep c w p r h = record {

@@ -1,8 +1,9 @@
 -- Worlds that show what the accepted events say stay so under views.
 use Rattle.std.proofs.Common.{◌≡◌, ℕ, ℤ, Bool, true, false, List, [], ◌∷◌, ◌++◌, cond, map, Some, None, refl, sym, ◌∙◌, ap, subst}
 use Rattle.std.specs.Option.{option_map}
-use Rattle.std.specs.List.{filter, filter_map, cons_option, find, list_any, last_or, flat_map, AllByRecursion}
+use Rattle.std.specs.List.{filter, find, list_any, last_or, flat_map, AllByRecursion}
 use Rattle.std.proofs.lemmas.Bool.{cond_both, or_parts}
+use Rattle.std.proofs.lemmas.List.{map-append}
 use Rattle.std.proofs.lemmas.List.Folds.{list_any-append}
 use Rattle.graph_model.specs.declared.properties.Value.{Value}
 use Rattle.graph_model.specs.declared.events.EdgeName.{EdgeName}
@@ -27,6 +28,7 @@ use Rattle.std.specs.Prelude.{pos, ◌+ℤ◌, not}
 use Rattle.world_laws.proofs.Filters.{filter_again, each_kept, each_append}
 use Rattle.world_laws.proofs.InOrder.{each_in_order}
 use Rattle.world_laws.proofs.Listed.{about-arrange}
+use Rattle.world_laws.proofs.ListItems.{no_images}
 use Rattle.world_laws.proofs.Order.{same_entity-exact}
 use Rattle.world_laws.proofs.Carried.{each_live, props-update_of}
 use Rattle.world_laws.proofs.Named.{names_node-window_list, names_node-filter}
@@ -39,12 +41,8 @@ use Rattle.view_trait.specs.Meaning.{IsShown}
 
 -- ---- keys that have no value
 
-none_mapped : (key : List ℕ) (xs : List Event) → LacksKey key xs → filter_map (λ (x : Event). prop_value key (props_of x)) xs ≡ []
-none_mapped key [] h = refl
-none_mapped key (x ∷ xs) h = ap (λ o. cons_option o (filter_map (λ (y : Event). prop_value key (props_of y)) xs)) h.0 ∙ none_mapped key xs h.1
-
 pub last_none : (key : List ℕ) (xs : List Event) → LacksKey key xs → last_value key xs ≡ None
-last_none key xs h = ap (last_or None) (none_mapped key xs h)
+last_none key xs h = ap (last_or None) (no_images (λ (x : Event). prop_value key (props_of x)) xs h)
 
 -- an entity whose events give a key no value has none
 pub value_none : (key : List ℕ) (xs : List Event) → LacksKey key xs → value_of key xs ≡ None
@@ -73,15 +71,11 @@ none_lacks key (p ∷ ps) h = let k = or_parts (same_name key p.0) (list_any (sa
     first true e rest = cc
     first false e rest = rest
 
-map_both : (ps qs : List (List ℕ × Value)) → map (λ (p : List ℕ × Value). p.0) (ps ++ qs) ≡ map (λ (p : List ℕ × Value). p.0) ps ++ map (λ (p : List ℕ × Value). p.0) qs
-map_both [] qs = refl
-map_both (p ∷ ps) qs = ap (λ ns. p.0 ∷ ns) (map_both ps qs)
-
 -- what no key of events is has no value in them
 lacks_unnamed : (key : List ℕ) (xs : List Event) → list_any (same_name key) (key_names xs) ≡ false → LacksKey key xs
 lacks_unnamed key [] h = tt
 lacks_unnamed key (x ∷ xs) h =
-    let split = ap (list_any (same_name key)) (map_both (props_of x) (flat_map props_of xs)) ∙ list_any-append (same_name key) (map (λ (p : List ℕ × Value). p.0) (props_of x)) (key_names xs) in
+    let split = ap (list_any (same_name key)) (map-append (λ (p : List ℕ × Value). p.0) (props_of x) (flat_map props_of xs)) ∙ list_any-append (same_name key) (map (λ (p : List ℕ × Value). p.0) (props_of x)) (key_names xs) in
     let k = or_parts (list_any (same_name key) (map (λ (p : List ℕ × Value). p.0) (props_of x))) (list_any (same_name key) (key_names xs)) (sym split ∙ h) in
     (none_lacks key (props_of x) k.0, lacks_unnamed key xs k.1)
 

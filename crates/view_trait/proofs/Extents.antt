@@ -1,22 +1,19 @@
 -- How many events lists have, and their first and last times.
-use Rattle.std.proofs.Common.{◌≡◌, ◌⊎◌, ℤ, ◌≤ℤ◌, Bool, true, false, ◌||◌, List, [], ◌∷◌, ◌++◌, length, take, get_or, ℕ, ◌<◌, Option, Some, None, refl, sym, ◌∙◌, ap, subst, arith, inl, inr, append-nil, append_assoc, length-append, ◌+◌}
-use Rattle.std.specs.Prelude.{int_le}
+use Rattle.std.proofs.Common.{◌≡◌, ◌⊎◌, ℤ, ◌≤ℤ◌, Bool, true, false, List, [], ◌∷◌, ◌++◌, cond, length, map, take, ℕ, ◌<◌, ◌≤◌, Option, Some, None, refl, sym, ◌∙◌, ap, subst, arith, inl, inr, append-nil, append_assoc, length-append, ◌+◌}
+use Rattle.std.specs.Prelude.{int_le, nat_lt, slice_get}
 use Rattle.std.specs.Int.{int_max, int_min}
 use Rattle.std.specs.Int.Signed.{≤ℤ_refl}
-use Rattle.std.specs.List.{list_any, flat_map, AllByRecursion}
-use Rattle.std.specs.Ordering.{int_eq, is_gt}
-use Rattle.std.specs.declared.cmp.Ordering.{Ordering}
-use Rattle.std.proofs.lemmas.Bool.{cases_Bool, cond_both, or_left, or_right, or_cases, true≢false}
+use Rattle.std.specs.List.{list_any, filter, flat_map, AllByRecursion}
+use Rattle.std.specs.Ordering.{int_eq, nat_cmp}
+use Rattle.std.proofs.lemmas.Bool.{cases_Bool, or_left, or_right, or_cases, true≢false}
 use Rattle.std.proofs.lemmas.Int.{ints, clamps}
-use Rattle.std.proofs.lemmas.List.{take_more, length-map, get_or-map}
+use Rattle.std.proofs.lemmas.List.{take_all}
 use Rattle.std.proofs.lemmas.List.Folds.{list_any-append}
 use Rattle.std.proofs.lemmas.Grind.{flat_map-append}
-use Rattle.std.proofs.Math.Seq.{take-length}
 use Rattle.graph_model.specs.declared.events.Entity.{Entity}
-use Rattle.graph_model.specs.declared.events.Entity.TheVariants.{Node, Edge}
 use Rattle.graph_model.specs.declared.events.Event.{Event}
 use Rattle.graph_model.specs.Entity.{is_about}
-use Rattle.graph_model.specs.Rising.{put_in_order, in_order}
+use Rattle.graph_model.specs.Rising.{Rises}
 use Rattle.graph_model.specs.World.{World, event_cmp, arrange, events_of}
 use Rattle.graph_model.specs.Windows.{last_time}
 use Rattle.world_laws.proofs.Filters.{each_weaker, each_append}
@@ -24,15 +21,16 @@ use Rattle.world_laws.proofs.InOrder.{each_in_order, IsInOrder-filter}
 use Rattle.world_laws.proofs.Counts.{length_in_order}
 use Rattle.world_laws.proofs.Listed.{in_order_from_arranged}
 use Rattle.world_laws.proofs.Nested.{TimesRise}
+use Rattle.world_laws.proofs.RisingFixed.{any_in_order}
 use Rattle.world_laws.proofs.Times.{le_from_test, gt_from_test}
 use Rattle.world_laws.proofs.Windows.{TimesRise-in_order}
-use Rattle.graph_store.specs.declared.edges.EdgeParts.{EdgeParts}
-use Rattle.graph_store.specs.Contents.{Contents, edge_name, node_entities, edge_entities}
+use Rattle.graph_store.specs.Contents.{Contents}
+use Rattle.view_trait.specs.Coverage.{Covers, edges_among, edges_on, entities_on, nodes_among, nodes_on}
+use Rattle.view_trait.specs.Extent.{time_of_first, time_of_last, extent_of, earlier_of, later_of, events_of_edge, events_of_node}
 use Rattle.view_trait.specs.Meaning.{IsShown, node_at, edge_at}
-use Rattle.view_trait.proofs.Pairs.{no_parts}
-use Rattle.view_trait.proofs.Entities.{all_entities, world_of_entities}
 use Rattle.view_trait.specs.declared.extent_of_view.WorldExtent.{WorldExtent}
-use Rattle.view_trait.specs.Extent.{time_of_first, time_of_last, extent_of, earlier_of, later_of}
+use Rattle.view_trait.specs.declared.rosters.Roster.{Roster}
+use Rattle.view_trait.proofs.OnRoster.{edges_more, nodes_more, world_on}
 
 abbrev is_timed : ℤ → Event → Bool
 is_timed t x = int_eq x.time t
@@ -120,33 +118,13 @@ greatest_of_both xs ys (Some s) (Some t) h k = (
 
 -- ---- arranged lists
 
-any_put : (cmp : Event → Event → Ordering) (p : Event → Bool) (x : Event) (ys : List Event) → list_any p (x ∷ ys) ≡ true → list_any p (put_in_order cmp x ys) ≡ true
-any_put cmp p x [] h = h
-any_put cmp p x (y ∷ ys) h =
-    cond_both (is_gt (cmp x y)) (y ∷ put_in_order cmp x ys) (x ∷ y ∷ ys) (λ zs. list_any p zs ≡ true)
-    (λ e. elim (or_cases (p x) (p y || list_any p ys) h) [
-      | inl a ↦ or_right (p y) (list_any p (put_in_order cmp x ys)) (any_put cmp p x ys (or_left (p x) (list_any p ys) a))
-      | inr b ↦ elim (or_cases (p y) (list_any p ys) b) [
-        | inl d ↦ or_left (p y) (list_any p (put_in_order cmp x ys)) d
-        | inr d ↦ or_right (p y) (list_any p (put_in_order cmp x ys)) (any_put cmp p x ys (or_right (p x) (list_any p ys) d))
-      ]
-    ])
-    (λ e. h)
-
-any_in_order : (cmp : Event → Event → Ordering) (p : Event → Bool) (xs : List Event) → list_any p xs ≡ true → list_any p (in_order cmp xs) ≡ true
-any_in_order cmp p [] h = h
-any_in_order cmp p (x ∷ xs) h = any_put cmp p x (in_order cmp xs) (elim (or_cases (p x) (list_any p xs) h) [
-  | inl a ↦ or_left (p x) (list_any p (in_order cmp xs)) a
-  | inr b ↦ or_right (p x) (list_any p (in_order cmp xs)) (any_in_order cmp p xs b)
-])
-
 least_arranged : (xs : List Event) (a : Option ℤ) → IsLeast xs a → IsLeast (arrange xs) a
 least_arranged xs None h = ap arrange h
-least_arranged xs (Some t) h = (each_in_order event_cmp (λ (x : Event). t ≤ℤ x.time) xs h.0, any_in_order event_cmp (is_timed t) xs h.1)
+least_arranged xs (Some t) h = (each_in_order event_cmp (λ (x : Event). t ≤ℤ x.time) xs h.0, any_in_order event_cmp (is_timed t) xs ∙ h.1)
 
 greatest_arranged : (xs : List Event) (a : Option ℤ) → IsGreatest xs a → IsGreatest (arrange xs) a
 greatest_arranged xs None h = ap arrange h
-greatest_arranged xs (Some t) h = (each_in_order event_cmp (λ (x : Event). x.time ≤ℤ t) xs h.0, any_in_order event_cmp (is_timed t) xs h.1)
+greatest_arranged xs (Some t) h = (each_in_order event_cmp (λ (x : Event). x.time ≤ℤ t) xs h.0, any_in_order event_cmp (is_timed t) xs ∙ h.1)
 
 -- ---- lists whose times rise
 
@@ -226,54 +204,56 @@ extent_arranged xs ys r h is arranged =
     let last = greatest_once ys r.last (time_of_last ys) (subst (λ zs. IsGreatest zs r.last) is (greatest_arranged xs r.last h.last)) (greatest_last ys rise) in
     λ k. record { events = events k; first = first k; last = last k }
 
--- ---- the entities of a store, one after another
-
-flat_more : (w : World) (before es : List Entity) (n : ℕ) (e : Entity) → n < length es → get_or es n (Node []) ≡ e
-    → flat_map (events_of w) (before ++ take (n + 1) es) ≡ flat_map (events_of w) (before ++ take n es) ++ events_of w e
-flat_more w before es n e lt is =
-    ap (λ ys. flat_map (events_of w) (before ++ ys)) (take_more es n (Node []) lt)
-    ∙ (ap (flat_map (events_of w)) (sym (append_assoc before (take n es) (get_or es n (Node []) ∷ [])))
-    ∙ (flat_map-append (events_of w) (before ++ take n es) (get_or es n (Node []) ∷ [])
-    ∙ (ap (λ ys. flat_map (events_of w) (before ++ take n es) ++ ys) (append-nil (events_of w (get_or es n (Node [])))) ∙ ap (λ z. flat_map (events_of w) (before ++ take n es) ++ events_of w z) is)))
-
-pub extent_more : (w : World) (before es : List Entity) (n : ℕ) (e : Entity) (a b r : WorldExtent) → n < length es → get_or es n (Node []) ≡ e → arrange w.events ≡ w.events
-    → IsExtent (flat_map (events_of w) (before ++ take n es)) a → b ≡ extent_of (events_of w e) → r.events ≡ a.events + b.events → r.first ≡ earlier_of a.first b.first → r.last ≡ later_of a.last b.last
-    → IsExtent (flat_map (events_of w) (before ++ take (n + 1) es)) r
-extent_more w before es n e a b r lt is h k own events first last =
-    let ys = events_of w e in
-    let rise : TimesRise ys = TimesRise-in_order ys (IsInOrder-filter event_cmp (is_about e) w.events (in_order_from_arranged w.events h)) in
-    let here : IsExtent ys b = subst (IsExtent ys) (sym own) (IsExtent-rising ys rise) in
-    subst (λ zs. IsExtent zs r) (sym (flat_more w before es n e lt is)) (IsExtent-append (flat_map (events_of w) (before ++ take n es)) ys a b r k here events first last)
-
 pub IsExtent-none : (r : WorldExtent) → r ≡ extent_of [] → IsExtent [] r
 IsExtent-none r e = subst (IsExtent []) (sym e) (IsExtent-rising [] tt)
 
-pub nodes_more : (c : Contents) (w : World) (n : ℕ) (a b r : WorldExtent) → n < length c.nodes → IsShown c w → IsExtent (flat_map (events_of w) (take n (node_entities c.nodes))) a → b ≡ extent_of (events_of w (node_at c n))
-    → r.events ≡ a.events + b.events → r.first ≡ earlier_of a.first b.first → r.last ≡ later_of a.last b.last → IsExtent (flat_map (events_of w) (take (n + 1) (node_entities c.nodes))) r
-nodes_more c w n a b r lt shown h own events first last =
-    let count = length-map c.nodes Node in
-    extent_more w [] (node_entities c.nodes) n (node_at c n) a b r (omega (arith, count, lt)) (get_or-map Node c.nodes n [] (Node []) lt) shown.lawful.arranged h own events first last
+-- ---- the nodes and edges on a roster, one after another
 
-pub edges_more : (c : Contents) (w : World) (e : ℕ) (a b r : WorldExtent) → e < length c.edges → IsShown c w → IsExtent (flat_map (events_of w) (node_entities c.nodes ++ take e (edge_entities c.nodes c.layers c.edges))) a
-    → b ≡ extent_of (events_of w (edge_at c e)) → r.events ≡ a.events + b.events → r.first ≡ earlier_of a.first b.first → r.last ≡ later_of a.last b.last
-    → IsExtent (flat_map (events_of w) (node_entities c.nodes ++ take (e + 1) (edge_entities c.nodes c.layers c.edges))) r
-edges_more c w e a b r lt shown h own events first last =
-    let f : EdgeParts → Entity = λ (p : EdgeParts). Edge (edge_name c.nodes c.layers p) in
-    let count = length-map c.edges f in
-    extent_more w (node_entities c.nodes) (edge_entities c.nodes c.layers c.edges) e (edge_at c e) a b r (omega (arith, count, lt)) (get_or-map f c.edges e no_parts (Node []) lt) shown.lawful.arranged h own events first last
+-- the events of entities, and those of one number more
+pub extent_more : (xs ys : List Event) (a b r : WorldExtent) → TimesRise ys → IsExtent xs a → b ≡ extent_of ys
+    → r.events ≡ a.events + b.events → r.first ≡ earlier_of a.first b.first → r.last ≡ later_of a.last b.last → IsExtent (xs ++ ys) r
+extent_more xs ys a b r rise h own events first last =
+    IsExtent-append xs ys a b r h (subst (IsExtent ys) (sym own) (IsExtent-rising ys rise)) events first last
 
-take_whole : (es : List Entity) (n : ℕ) → n ≡ length es → take n es ≡ es
-take_whole es n e = ap (λ m. take m es) e ∙ take-length es
+-- times rise in the events of one entity, and where there are none
+some_rise : (w : World) (x : Entity) (t : Bool) → arrange w.events ≡ w.events → TimesRise (cond t (events_of w x) [])
+some_rise w x true h = TimesRise-in_order (events_of w x) (IsInOrder-filter event_cmp (is_about x) w.events (in_order_from_arranged w.events h))
+some_rise w x false h = tt
 
--- after the nodes come the edges
-pub nodes_whole : (c : Contents) (w : World) (n : ℕ) (r : WorldExtent) → n ≡ length c.nodes → IsExtent (flat_map (events_of w) (take n (node_entities c.nodes))) r → IsExtent (flat_map (events_of w) (node_entities c.nodes ++ [])) r
-nodes_whole c w n r e h =
-    let count = length-map c.nodes Node in
-    subst (λ es. IsExtent (flat_map (events_of w) es) r) (take_whole (node_entities c.nodes) n (omega (arith, count, e)) ∙ sym (append-nil (node_entities c.nodes))) h
+-- the events of a number are those of what it names
+named_events : (w : World) (f : ℕ → Entity) (m n : ℕ) → flat_map (events_of w) (map f (filter (λ k. nat_lt k m) (n ∷ []))) ≡ cond (nat_lt n m) (events_of w (f n)) []
+named_events w f m n = by (nat_lt n m)
+  where
+    by : (t : Bool) → flat_map (events_of w) (map f (cond t (n ∷ []) [])) ≡ cond t (events_of w (f n)) []
+    by true = append-nil (events_of w (f n))
+    by false = refl
 
--- the extent of all entities is that of the world
-pub edges_whole : (c : Contents) (w : World) (e : ℕ) (r : WorldExtent) → e ≡ length c.edges → IsShown c w → IsExtent (flat_map (events_of w) (node_entities c.nodes ++ take e (edge_entities c.nodes c.layers c.edges))) r → r ≡ extent_of w.events
-edges_whole c w e r is shown h =
-    let count = length-map c.edges (λ (p : EdgeParts). Edge (edge_name c.nodes c.layers p)) in
-    let all = take_whole (edge_entities c.nodes c.layers c.edges) e (omega (arith, count, is)) in
-    extent_arranged (flat_map (events_of w) (all_entities c)) w.events r (subst (λ es. IsExtent (flat_map (events_of w) (node_entities c.nodes ++ es)) r) all h) (world_of_entities c w shown) shown.lawful.arranged
+module _ (c : Contents) (w : World) (shown : IsShown c w) where
+  pub nodes_extent : (ns : List ℕ) (i n : ℕ) (a b r : WorldExtent) → i < length ns → slice_get ns i ≡ Some n → IsExtent (flat_map (events_of w) (nodes_among c (take i ns))) a → b ≡ extent_of (events_of_node c w n)
+      → r.events ≡ a.events + b.events → r.first ≡ earlier_of a.first b.first → r.last ≡ later_of a.last b.last → IsExtent (flat_map (events_of w) (nodes_among c (take (i + 1) ns))) r
+  nodes_extent ns i n a b r lt here h own events first last =
+      subst (λ zs. IsExtent zs r)
+      (sym (ap (flat_map (events_of w)) (nodes_more c ns i n lt here)
+      ∙ (flat_map-append (events_of w) (nodes_among c (take i ns)) (nodes_among c (n ∷ [])) ∙ ap (λ zs. flat_map (events_of w) (nodes_among c (take i ns)) ++ zs) (named_events w (node_at c) (length c.nodes) n))))
+      (extent_more (flat_map (events_of w) (nodes_among c (take i ns))) (events_of_node c w n) a b r (some_rise w (node_at c n) (nat_lt n (length c.nodes)) shown.lawful.arranged) h own events first last)
+
+  pub edges_extent : (nodes : List Entity) (es : List ℕ) (i e : ℕ) (a b r : WorldExtent) → i < length es → slice_get es i ≡ Some e → IsExtent (flat_map (events_of w) (nodes ++ edges_among c (take i es))) a → b ≡ extent_of (events_of_edge c w e)
+      → r.events ≡ a.events + b.events → r.first ≡ earlier_of a.first b.first → r.last ≡ later_of a.last b.last → IsExtent (flat_map (events_of w) (nodes ++ edges_among c (take (i + 1) es))) r
+  edges_extent nodes es i e a b r lt here h own events first last =
+      subst (λ zs. IsExtent zs r)
+      (sym (ap (λ xs. flat_map (events_of w) (nodes ++ xs)) (edges_more c es i e lt here)
+      ∙ (ap (flat_map (events_of w)) (sym (append_assoc nodes (edges_among c (take i es)) (edges_among c (e ∷ []))))
+      ∙ (flat_map-append (events_of w) (nodes ++ edges_among c (take i es)) (edges_among c (e ∷ [])) ∙ ap (λ zs. flat_map (events_of w) (nodes ++ edges_among c (take i es)) ++ zs) (named_events w (edge_at c) (length c.edges) e)))))
+      (extent_more (flat_map (events_of w) (nodes ++ edges_among c (take i es))) (events_of_edge c w e) a b r (some_rise w (edge_at c e) (nat_lt e (length c.edges)) shown.lawful.arranged) h own events first last)
+
+  -- the edges come after all nodes
+  pub nodes_whole : (ns : List ℕ) (i : ℕ) (r : WorldExtent) → length ns ≤ i → IsExtent (flat_map (events_of w) (nodes_among c (take i ns))) r → IsExtent (flat_map (events_of w) (nodes_among c ns ++ [])) r
+  nodes_whole ns i r all h = subst (λ es. IsExtent (flat_map (events_of w) es) r) (ap (nodes_among c) (take_all i ns all) ∙ sym (append-nil (nodes_among c ns))) h
+
+  -- the extent of all that is on a roster that covers the world is that of the world
+  pub edges_whole : (roster : Roster) (i : ℕ) (r : WorldExtent) → Covers c w roster → Rises nat_cmp (nodes_on c roster) → Rises nat_cmp (edges_on c roster) → length (edges_on c roster) ≤ i
+      → IsExtent (flat_map (events_of w) (nodes_among c (nodes_on c roster) ++ edges_among c (take i (edges_on c roster)))) r → r ≡ extent_of w.events
+  edges_whole roster i r covers nodes edges all h =
+      extent_arranged (flat_map (events_of w) (entities_on c roster)) w.events r
+      (subst (λ es. IsExtent (flat_map (events_of w) (nodes_among c (nodes_on c roster) ++ edges_among c es)) r) (take_all i (edges_on c roster) all) h)
+      (world_on c w roster shown covers nodes edges) shown.lawful.arranged

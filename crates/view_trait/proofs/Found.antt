@@ -14,6 +14,7 @@ use Rattle.graph_model.specs.Interval.{Interval}
 use Rattle.graph_model.specs.Entity.{is_about}
 use Rattle.graph_model.specs.World.{World, event_cmp, events_of}
 use Rattle.world_laws.proofs.Counts.{length_filter_le, length_in_order}
+use Rattle.world_laws.proofs.ListItems.{some_last}
 use Rattle.time_history.specs.declared.updates.Update.{Update}
 use Rattle.time_history.specs.declared.span.Span.{Span}
 use Rattle.time_history.specs.Telling.{event_told, events_told, Fits}
@@ -83,10 +84,6 @@ is_some-map f (Some x) = refl
 
 pub has_last : (c : Contents) (w : World) (x : Entity) (us : List Update) (s : Span) (kind : Option Kind) → Tells c x us → Shows c w x s → IsLastKind us s kind → is_some kind ≡ is_some (last_or None (events_of w x))
 has_last c w x us s kind t h k = ap is_some (last_kind_is c w x us s kind t h k) ∙ is_some-map (λ (y : Event). kind_of_event y.what) (last_or None (events_of w x))
-
-some_last : {A : Type 0} (y : A) (xs : List A) → is_some (last_or (Some y) xs) ≡ true
-some_last y [] = refl
-some_last y (x ∷ xs) = some_last x xs
 
 -- a list has a last item unless it has none
 pub last_some : {A : Type 0} (xs : List A) → is_some (last_or None xs) ≡ true → xs ≡ [] → ⊥

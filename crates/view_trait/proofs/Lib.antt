@@ -15,3 +15,6 @@ pub mod Drawn
 pub mod ReadyWorlds
 pub mod OneProof
 pub mod Covered
+pub mod NextContact
+pub mod OnRoster
+pub mod Settled

@@ -4,6 +4,7 @@ use Rattle.std.specs.List.{list_any, filter, AllByRecursion, IsDistinct}
 use Rattle.std.specs.Prelude.{Option, Some, None}
 use Rattle.std.proofs.lemmas.Bool.{cases_Bool, true≢false, and_parts, and_from, eqb-true, cond-true, cond-false}
 use Rattle.std.proofs.lemmas.Bool.Decides.{nat_tests}
+use Rattle.std.proofs.lemmas.List.{map-append}
 use Rattle.std.proofs.lemmas.List.Folds.{list_any-append}
 use Rattle.graph_model.specs.declared.queries.Direction.{Direction}
 use Rattle.graph_model.specs.declared.queries.Direction.TheVariants.{Outward, Inward, Both}
@@ -11,9 +12,11 @@ use Rattle.graph_model.specs.Names.{same_name}
 use Rattle.graph_model.specs.World.{World}
 use Rattle.graph_model.specs.Neighbours.{leads}
 use Rattle.world_laws.proofs.Filters.{each_kept, kept_pass, each_weaker, each_append}
+use Rattle.world_laws.proofs.ListItems.{any_map}
 use Rattle.world_laws.proofs.Order.{same_name-exact, same_name-refl}
 use Rattle.world_laws.proofs.Members.{both_true, any_filter}
 use Rattle.world_laws.proofs.Reach.{linked}
+use Rattle.world_laws.proofs.SortedKeys.{distinct_filter}
 use Rattle.time_history.proofs.Segments.{each_in_map}
 use Rattle.graph_store.specs.declared.pairs.Ends.{Ends}
 use Rattle.graph_store.specs.Places.{places_from, places}
@@ -32,16 +35,6 @@ distinct_map : (f : ℕ → ℕ) (ps : List ℕ) → IsDistinct (λ (p q : ℕ).
 unfolding IsDistinct
 distinct_map f [] h = tt
 distinct_map f (p ∷ ps) h = (each_in_map f (λ q. eqb (f p) (f q) ≡ false) (λ y. eqb (f p) y ≡ false) (λ q e. e) ps h.0, distinct_map f ps h.1)
-
-distinct_first : (same : ℕ → ℕ → Bool) (q : ℕ → Bool) (p : ℕ) (ps : List ℕ) (t : Bool) → q p ≡ t → AllByRecursion (λ y. same p y ≡ false) ps → IsDistinct same (filter q ps) → IsDistinct same (filter q (p ∷ ps))
-unfolding IsDistinct
-distinct_first same q p ps true e h rest = subst (IsDistinct same) (sym (cond-true (q p) _ _ e)) (each_kept (λ y. same p y ≡ false) q ps h, rest)
-distinct_first same q p ps false e h rest = subst (IsDistinct same) (sym (cond-false (q p) _ _ e)) rest
-
-distinct_filter : (same : ℕ → ℕ → Bool) (q : ℕ → Bool) (ps : List ℕ) → IsDistinct same ps → IsDistinct same (filter q ps)
-unfolding IsDistinct
-distinct_filter same q [] h = tt
-distinct_filter same q (p ∷ ps) h = distinct_first same q p ps (q p) refl h.0 (distinct_filter same q ps h.1)
 
 -- places at which a function differs
 place_first : {X : Type 0} (same : ℕ → ℕ → Bool) (test : X → Bool) (i : ℕ) (x : X) (xs : List X) (t : Bool) → test x ≡ t → (test x ≡ true → AllByRecursion (λ q. same i q ≡ false) (places_from (suc i) test xs)) → IsDistinct same (places_from (suc i) test xs) → IsDistinct same (places_from i test (x ∷ xs))
@@ -66,18 +59,10 @@ distinct_places : {X : Type 0} (same : ℕ → ℕ → Bool) (test : X → Bool)
     → IsDistinct same (places test xs)
 distinct_places same test xs d h = distinct_from same test 0 xs d (λ j k less lt a b. subst (λ n. same n (0 + k) ≡ false) (sym (at_zero j)) (subst (λ n. same j n ≡ false) (sym (at_zero k)) (h j k less lt a b)))
 
-distinct_append : (xs ys : List ℕ) → IsDistinct (λ (i j : ℕ). eqb i j) xs → IsDistinct (λ (i j : ℕ). eqb i j) ys → AllByRecursion (λ x. AllByRecursion (λ y. eqb x y ≡ false) ys) xs → IsDistinct (λ (i j : ℕ). eqb i j) (xs ++ ys)
+pub distinct_append : {X : Type 0} (same : X → X → Bool) (xs ys : List X) → IsDistinct same xs → IsDistinct same ys → AllByRecursion (λ x. AllByRecursion (λ y. same x y ≡ false) ys) xs → IsDistinct same (xs ++ ys)
 unfolding IsDistinct
-distinct_append [] ys h k apart = k
-distinct_append (x ∷ xs) ys h k apart = (each_append (λ y. eqb x y ≡ false) xs ys h.0 apart.0, distinct_append xs ys h.1 k apart.1)
-
-pub any_map : {X Y : Type 0} (p : Y → Bool) (f : X → Y) (xs : List X) → list_any p (map f xs) ≡ list_any (λ x. p (f x)) xs
-any_map p f [] = refl
-any_map p f (x ∷ xs) = ap (λ t. p (f x) || t) (any_map p f xs)
-
-map_append : {X Y : Type 0} (f : X → Y) (xs ys : List X) → map f (xs ++ ys) ≡ map f xs ++ map f ys
-map_append f [] ys = refl
-map_append f (x ∷ xs) ys = ap (λ zs. f x ∷ zs) (map_append f xs ys)
+distinct_append same [] ys h k apart = k
+distinct_append same (x ∷ xs) ys h k apart = (each_append (λ y. same x y ≡ false) xs ys h.0 apart.0, distinct_append same xs ys h.1 k apart.1)
 
 -- ---- the pairs of one node
 
@@ -227,9 +212,9 @@ module _ (c : Contents) (w : World) (n : ℕ) (h : IsShown c w) (known : n < len
 
   pub both_ways : AreNeighbours c w Both n (numbers_left c w n true (Some (pairs_from c.pairs n)) (Some (pairs_to c.pairs n)))
   both_ways = record {
-    apart = distinct_append outs ins outs_apart (ins_apart true) (each_weaker (λ i. leads w Outward name (name_at c.nodes i) ≡ true) (λ i. AllByRecursion (λ j. eqb i j ≡ false) ins) (λ i e. each_weaker (λ j. leads w Outward name (name_at c.nodes j) ≡ false) (λ j. eqb i j ≡ false) (λ j f. different i j (λ same. true≢false (sym e ∙ (ap (λ k. leads w Outward name (name_at c.nodes k)) same ∙ f)))) ins ins_new) outs outs_led);
+    apart = distinct_append (λ (i j : ℕ). eqb i j) outs ins outs_apart (ins_apart true) (each_weaker (λ i. leads w Outward name (name_at c.nodes i) ≡ true) (λ i. AllByRecursion (λ j. eqb i j ≡ false) ins) (λ i e. each_weaker (λ j. leads w Outward name (name_at c.nodes j) ≡ false) (λ j. eqb i j ≡ false) (λ j f. different i j (λ same. true≢false (sym e ∙ (ap (λ k. leads w Outward name (name_at c.nodes k)) same ∙ f)))) ins ins_new) outs outs_led);
     within = each_append (λ i. i < length c.nodes) outs ins outs_within (ins_within true);
-    exactly = λ b. ap (list_any (same_name b)) (map_append (name_at c.nodes) outs ins) ∙ (list_any-append (same_name b) (map (name_at c.nodes) outs) (map (name_at c.nodes) ins)
+    exactly = λ b. ap (list_any (same_name b)) (map-append (name_at c.nodes) outs ins) ∙ (list_any-append (same_name b) (map (name_at c.nodes) outs) (map (name_at c.nodes) ins)
         ∙ (ap (λ t. t || list_any (same_name b) (map (name_at c.nodes) ins)) (outs_exactly b) ∙ (ap (λ t. leads w Outward name b || t) (ins_exactly true b) ∙ either (leads w Outward name b) (leads w Outward b name))));
   }
     where

@@ -3,7 +3,7 @@ use Rattle.std.proofs.Common.{◌≡◌, ℕ, ◌^◌, ◌<◌, Bool, true, fals
 use Rattle.std.specs.Prelude.{is_some, position, slice_get}
 use Rattle.std.specs.Int.{bit_not, w64}
 use Rattle.std.specs.List.{list_any, list_all, AllByRecursion}
-use Rattle.std.proofs.lemmas.Bool.{or_left, or_right, and_parts, and_from}
+use Rattle.std.proofs.lemmas.Bool.{or_left, or_right}
 use Rattle.std.proofs.lemmas.Bool.Decides.{nat_tests}
 use Rattle.std.proofs.lemmas.List.{length-map}
 use Rattle.std.proofs.lemmas.List.Quantifiers.{position-Some}
@@ -28,7 +28,7 @@ use Rattle.world_laws.proofs.Lawful.{each_passes}
 use Rattle.world_laws.proofs.Listed.{each_any, has_event}
 use Rattle.world_laws.proofs.Named.{among_types_same}
 use Rattle.world_laws.proofs.Order.{same_name-exact, same_entity-refl}
-use Rattle.time_history.proofs.Held.{each_at}
+use Rattle.world_laws.proofs.ListItems.{each_at}
 use Rattle.graph_store.specs.EdgeParts.{parts_at}
 use Rattle.graph_store.specs.Keys.{key_name}
 use Rattle.graph_store.specs.Contents.{Contents, name_at, base_of}
@@ -189,7 +189,3 @@ apply-push (first ∷ ops) op w = apply-push ops op (view w first)
 
 pub passes_at : {X : Type 0} (p : X → Bool) (xs : List X) (i : ℕ) (x : X) → list_all p xs ≡ true → i < length xs → slice_get xs i ≡ Some x → p x ≡ true
 passes_at {X} p xs i x h lt is = subst (λ y. p y ≡ true) (get_or_from_slice_get xs i x x is) (each_at (λ (y : X). p y ≡ true) xs i x (each_passes p xs h) lt)
-
-pub all_push : {X : Type 0} (p : X → Bool) (xs : List X) (x : X) → list_all p xs ≡ true → p x ≡ true → list_all p (xs ++ x ∷ []) ≡ true
-all_push p [] x h k = ap (λ b. b && true) k
-all_push p (y ∷ xs) x h k = let m = and_parts (p y) (list_all p xs) h in and_from (p y) (list_all p (xs ++ x ∷ [])) m.0 (all_push p xs x m.1 k)

@@ -1,21 +1,23 @@
 -- Numbers that rise, searched and put in their places.
 use Rattle.std.proofs.Common.{◌≡◌, ℕ, zero, suc, ◌<◌, ◌≤◌, ◌⊎◌, Bool, true, false, ◌||◌, List, [], ◌∷◌, cond, length, get_or, refl, sym, ◌∙◌, ap, subst, arith, inl, inr, eqb}
-use Rattle.std.specs.Prelude.{Result, Ok, Err, is_ok}
-use Rattle.std.specs.List.Sorted.{IsBinarySearchResult}
+use Rattle.std.specs.Prelude.{Result, Ok, Err, is_ok, ◌==◌}
+use Rattle.std.specs.List.Sorted.{IsBinarySearchResult, IsPermutation, IsSorted}
+use Rattle.std.specs.List.Retain.{IsFiltered, DiffersFromLast}
 use Rattle.std.proofs.lemmas.List.Sorted.{searched}
 use Rattle.std.proofs.lemmas.Cmp.{nat_cmp_total}
 use Rattle.std.specs.List.{insert}
 use Rattle.std.specs.declared.cmp.Ordering.TheVariants.{Less, Equal, Greater}
-use Rattle.std.specs.Ordering.{nat_cmp, is_lt, is_gt}
-use Rattle.std.specs.Cmp.{nat_cmp_is}
-use Rattle.std.proofs.lemmas.Bool.{ne_eqb}
+use Rattle.std.specs.Ordering.{nat_cmp, is_eq, is_lt, is_gt}
+use Rattle.std.specs.Cmp.{nat_cmp_is, unsigned_tied}
+use Rattle.std.proofs.lemmas.Bool.{eqb-true, ne_eqb}
 use Rattle.std.proofs.lemmas.Bool.Decides.{nat_tests}
-use Rattle.graph_model.specs.Rising.{put_rising, Rises}
-use Rattle.world_laws.proofs.RisingItems.{Rises-put}
-use Rattle.time_history.proofs.Held.{each_at}
+use Rattle.graph_model.specs.Rising.{put_rising, rising, Rises}
+use Rattle.world_laws.proofs.RisingItems.{Rises-put, Rises-rising}
+use Rattle.world_laws.proofs.ListItems.{each_at}
 use Rattle.view_trait.specs.Numbered.{is_listed}
+use Rattle.view_trait.proofs.Settled.{settled}
 
-less_is : (x y : ℕ) → x < y → nat_cmp x y ≡ Less
+pub less_is : (x y : ℕ) → x < y → nat_cmp x y ≡ Less
 less_is x y h = sym (nat_cmp_is x y Less h)
 
 equal_is : (x y : ℕ) → x ≡ y → nat_cmp x y ≡ Equal
@@ -27,7 +29,7 @@ greater_is x y h = sym (nat_cmp_is x y Greater h)
 three_ways : (x y : ℕ) → (x < y) ⊎ ((x ≡ y) ⊎ (y < x))
 three_ways x y = grind arith
 
-less_from : (x y : ℕ) → nat_cmp x y ≡ Less → x < y
+pub less_from : (x y : ℕ) → nat_cmp x y ≡ Less → x < y
 less_from x y h = elim (three_ways x y) [
   | inl a ↦ a
   | inr b ↦ elim b [
@@ -109,10 +111,9 @@ found_search xs n i h k = let r = searched xs n (Ok i) k (numbers_rise xs h) in 
 pub new_search : (xs : List ℕ) (n i : ℕ) → Rises nat_cmp xs → IsBinarySearchResult (λ y. nat_cmp y n) xs (Err i) → put_rising nat_cmp n xs ≡ insert xs i n
 new_search xs n i h k = let r = searched xs n (Err i) k (numbers_rise xs h) in put_new n xs i r.0 r.1 r.2
 
--- numbers that rise do so with one more, or as they were
-pub rises_after : (xs ys : List ℕ) (n i : ℕ) (ok : Bool) → Rises nat_cmp xs → put_rising nat_cmp n xs ≡ insert xs i n → ys ≡ cond ok (insert xs i n) xs → Rises nat_cmp ys
-rises_after xs ys n i true h e is = subst (Rises nat_cmp) (e ∙ sym is) (Rises-put nat_cmp nat_cmp_total n xs h)
-rises_after xs ys n i false h e is = subst (Rises nat_cmp) (sym is) h
+-- numbers that rise do so with one more
+pub rises_after : (xs ys : List ℕ) (n i : ℕ) → Rises nat_cmp xs → put_rising nat_cmp n xs ≡ insert xs i n → ys ≡ insert xs i n → Rises nat_cmp ys
+rises_after xs ys n i h e is = subst (Rises nat_cmp) (e ∙ sym is) (Rises-put nat_cmp nat_cmp_total n xs h)
 
 -- a number that is put is listed beside the others
 listed_twice : (a b d : Bool) → a ≡ b → (b || d) ≡ ((b || d) || a)
@@ -143,3 +144,14 @@ listed_put p (y ∷ ys) n = elim (three_ways p y) [
     | inr g ↦ ap (λ zs. is_listed zs n) (put_greater p y ys g) ∙ (ap (λ b. eqb y n || b) (listed_put p ys n) ∙ listed_later (eqb p n) (eqb y n) (is_listed ys n))
   ]
 ]
+
+-- ---- numbers that are sorted, and then left once each
+
+exact_numbers : (x y : ℕ) → nat_cmp x y ≡ Equal → x ≡ y
+exact_numbers x y e = eqb-true x y (sym (unsigned_tied x y) ∙ ap is_eq e)
+
+pub numbers_settled : (xs ys zs : List ℕ) → IsPermutation xs ys → IsSorted nat_cmp ys → IsFiltered (DiffersFromLast (λ (x y : ℕ). x == y)) [] ys zs → zs ≡ rising nat_cmp xs
+numbers_settled xs ys zs moved sorted left = settled nat_cmp nat_cmp_total exact_numbers (λ (x y : ℕ). x == y) (λ x y. sym (unsigned_tied x y)) xs ys zs moved sorted left
+
+pub Rises-numbers : (xs : List ℕ) → Rises nat_cmp (rising nat_cmp xs)
+Rises-numbers xs = Rises-rising nat_cmp nat_cmp_total xs

@@ -10,6 +10,7 @@ use Rattle.std.proofs.lemmas.List.Folds.{list_any-append}
 use Rattle.std.proofs.lemmas.List.Quantifiers.{position-Some}
 use Rattle.std.proofs.lemmas.Option.{get_or_from_slice_get}
 use Rattle.std.proofs.lemmas.Nat.Bits.{bit_at-zero, bit_at_set_same, bit_at_set_other}
+use Rattle.std.proofs.Math.Bool.{or-false}
 use Rattle.graph_model.specs.Names.{same_name}
 use Rattle.graph_model.specs.Keep.{is_named}
 use Rattle.world_laws.proofs.Members.{both_true}
@@ -20,13 +21,8 @@ use Rattle.graph_store.proofs.Readers.{none_found}
 use Rattle.view_trait.specs.Drawn.{Selects}
 use Rattle.view_trait.specs.Numbered.{has_bit, is_listed}
 
-or_nothing : (b : Bool) → (b || false) ≡ b
-or_nothing true = refl
-or_nothing false = refl
-
--- one name more
 is_named-push : (names : List (List ℕ)) (x name : List ℕ) → is_named (names ++ x ∷ []) name ≡ (is_named names name || same_name name x)
-is_named-push names x name = list_any-append (same_name name) names (x ∷ []) ∙ ap (λ b. is_named names name || b) (or_nothing (same_name name x))
+is_named-push names x name = list_any-append (same_name name) names (x ∷ []) ∙ ap (λ b. is_named names name || b) (or-false (same_name name x))
 
 pub take_push : {X : Type 0} (xs : List X) (i : ℕ) (x : X) → i < length xs → slice_get xs i ≡ Some x → take (i + 1) xs ≡ take i xs ++ x ∷ []
 take_push xs i x lt is = take_more xs i x lt ∙ ap (λ y. take i xs ++ y ∷ []) (get_or_from_slice_get xs i x x is)
@@ -66,7 +62,7 @@ other_name table x n none lt = elim (cases_Bool (same_name (name_at table n) x))
 pub selects_same : (table names : List (List ℕ)) (i : ℕ) (x : List ℕ) (test : ℕ → Bool) → i < length names → slice_get names i ≡ Some x → position (same_name x) table ≡ None → Selects table (take i names) test → Selects table (take (i + 1) names) test
 selects_same table names i x test lt_i at none h n lt =
     h n lt
-    ∙ (sym (or_nothing (is_named (take i names) (name_at table n)))
+    ∙ (sym (or-false (is_named (take i names) (name_at table n)))
     ∙ (ap (λ b. is_named (take i names) (name_at table n) || b) (sym (other_name table x n none lt))
     ∙ (sym (is_named-push (take i names) x (name_at table n)) ∙ ap (λ ys. is_named ys (name_at table n)) (sym (take_push names i x lt_i at)))))
 
@@ -78,7 +74,7 @@ no_bit n = let e = bit_at-zero n in ap (λ b. eqb b 1) e
 pub bit_set : (bits p n : ℕ) → p < 64 → has_bit (bit_or bits (1 * 2 ^ p % 2 ^ 64)) n ≡ (has_bit bits n || eqb p n)
 bit_set bits p n within = elim (cases_Bool (eqb p n)) [
   | inl e ↦ ap (has_bit (bit_or bits (1 * 2 ^ p % 2 ^ 64))) (sym (eqb-true p n e)) ∙ (ap (λ b. eqb b 1) (bit_at_set_same w64 bits p within) ∙ sym (ap (λ b. has_bit bits n || b) e ∙ or_any (has_bit bits n)))
-  | inr e ↦ ap (λ b. eqb b 1) (bit_at_set_other w64 bits p within n (λ same. eqb-false p n e (sym same))) ∙ sym (ap (λ b. has_bit bits n || b) e ∙ or_nothing (has_bit bits n))
+  | inr e ↦ ap (λ b. eqb b 1) (bit_at_set_other w64 bits p within n (λ same. eqb-false p n e (sym same))) ∙ sym (ap (λ b. has_bit bits n || b) e ∙ or-false (has_bit bits n))
 ]
   where
     or_any : (b : Bool) → (b || true) ≡ true
@@ -86,7 +82,7 @@ bit_set bits p n within = elim (cases_Bool (eqb p n)) [
     or_any false = refl
 
 pub listed_push : (xs : List ℕ) (p n : ℕ) → is_listed (xs ++ p ∷ []) n ≡ (is_listed xs n || eqb p n)
-listed_push xs p n = list_any-append (λ m. eqb m n) xs (p ∷ []) ∙ ap (λ b. is_listed xs n || b) (or_nothing (eqb p n))
+listed_push xs p n = list_any-append (λ m. eqb m n) xs (p ∷ []) ∙ ap (λ b. is_listed xs n || b) (or-false (eqb p n))
 
 -- ---- numbers below a bound that pass a test
 
@@ -108,13 +104,13 @@ below_more P i n h = elim (cases_Bool (eqb i n)) [
     go false b d h k = ap (λ t. t && b) k ∙ (h ∙ sym k)
 
     other : (a b d : Bool) → d ≡ false → ((a || d) && b) ≡ ((a && b) || d)
-    other true b d k = sym (ap (λ t. b || t) k ∙ or_nothing b)
+    other true b d k = sym (ap (λ t. b || t) k ∙ or-false b)
     other false b d k = ap (λ t. t && b) k ∙ sym k
 
 pub below_same : (P : ℕ → Bool) (i n : ℕ) → P i ≡ false → (nat_lt n i && P n) ≡ (nat_lt n (i + 1) && P n)
 below_same P i n h = elim (cases_Bool (eqb i n)) [
   | inl e ↦ let own : P n ≡ false = ap P (sym (eqb-true i n e)) ∙ h in neither (nat_lt n i) (nat_lt n (i + 1)) (P n) own
-  | inr e ↦ sym (ap (λ b. b && P n) (below_is i n ∙ (ap (λ b. nat_lt n i || b) e ∙ or_nothing (nat_lt n i))))
+  | inr e ↦ sym (ap (λ b. b && P n) (below_is i n ∙ (ap (λ b. nat_lt n i || b) e ∙ or-false (nat_lt n i))))
 ]
   where
     neither : (a b d : Bool) → d ≡ false → (a && d) ≡ (b && d)

@@ -83,7 +83,7 @@ IsEmptyOrInside-cut i a b = part (is_empty (cut i a b)) refl
 pub events_of-keep : (p : Entity → Bool) (w : World) (x : Entity) → events_of (keep p w) x ≡ cond (p x) (events_of w x) []
 events_of-keep p w x = about-kept p x w.events
 
-cond_nothing : (t : Bool) (xs : List Event) → xs ≡ [] → cond t xs [] ≡ []
+pub cond_nothing : (t : Bool) (xs : List Event) → xs ≡ [] → cond t xs [] ≡ []
 cond_nothing true xs h = h
 cond_nothing false xs h = refl
 

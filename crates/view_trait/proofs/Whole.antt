@@ -3,6 +3,7 @@ use Rattle.std.proofs.Common.{◌≡◌, ℕ, ◌-◌, ◌^◌, ◌≤◌, Bool,
 use Rattle.std.specs.Prelude.{is_some}
 use Rattle.std.specs.List.{AllByRecursion}
 use Rattle.std.specs.Int.{bit_at}
+use Rattle.std.proofs.lemmas.Bool.{or_parts}
 use Rattle.std.proofs.lemmas.Nat.Bits.{bit_at_ones}
 use Rattle.std.proofs.lemmas.List.{length-map}
 use Rattle.std.proofs.Math.Seq.{take-length}
@@ -32,24 +33,16 @@ about_involves : (name : List ℕ) (e : Entity) → same_entity (Node name) e �
 about_involves name (Node other) h = ap (λ b. b || false) h
 about_involves name (Edge edge) h = cc
 
-or_false : (b c : Bool) → (b || c) ≡ false → c ≡ false
-or_false true c k = cc
-or_false false c k = k
-
 none_first : (name : List ℕ) (x : Event) (xs : List Event) → about (Node name) xs ≡ [] → names_node (x ∷ xs) name ≡ false → (b : Bool) → same_entity (Node name) (entity_of x) ≡ b → about (Node name) (x ∷ xs) ≡ []
 none_first name x xs rest h true e = absurd (let no : true ≡ false = sym (ap (λ b. b || names_node xs name) (about_involves name (entity_of x) e)) ∙ h in cc)
 none_first name x xs rest h false e = ap (λ b. cond b (x ∷ about (Node name) xs) (about (Node name) xs)) e ∙ rest
 
 none_about : (name : List ℕ) (xs : List Event) → names_node xs name ≡ false → about (Node name) xs ≡ []
 none_about name [] h = refl
-none_about name (x ∷ xs) h = none_first name x xs (none_about name xs (or_false (involves name (entity_of x)) (names_node xs name) h)) h (same_entity (Node name) (entity_of x)) refl
-
-or_first : (b c : Bool) → (b || c) ≡ false → b ≡ false
-or_first true c k = cc
-or_first false c k = refl
+none_about name (x ∷ xs) h = none_first name x xs (none_about name xs ((or_parts (involves name (entity_of x)) (names_node xs name) h).1)) h (same_entity (Node name) (entity_of x)) refl
 
 unknown : (c : Contents) (x : Entity) → IsIndexed c → knows c x ≡ false → about x c.accepted ≡ []
-unknown c (Node name) k h = none_about name c.accepted (or_first (names_node c.accepted name) (is_some (type_of c.types name)) (sym (k.known_nodes name) ∙ h))
+unknown c (Node name) k h = none_about name c.accepted ((or_parts (names_node c.accepted name) (is_some (type_of c.types name)) (sym (k.known_nodes name) ∙ h)).0)
 unknown c (Edge edge) k h = filter_none (is_about (Edge edge)) c.accepted (each_fails (is_about (Edge edge)) c.accepted (sym (k.known_edges edge) ∙ h))
 
 -- where entities that fail a test have no event, each event passes it

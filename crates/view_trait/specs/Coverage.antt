@@ -1,6 +1,7 @@
 -- Rosters, and the worlds that they cover.
-use Rattle.std.specs.Prelude.{ℕ, ◌<◌, ◌≡◌, List, [], false, length}
-use Rattle.std.specs.List.{range_with_len}
+use Rattle.std.specs.Prelude.{ℕ, ◌<◌, ◌≡◌, ◌++◌, List, [], false, length, map, nat_lt}
+use Rattle.std.specs.List.{filter, range_with_len}
+use Rattle.graph_model.specs.declared.events.Entity.{Entity}
 use Rattle.graph_model.specs.World.{World, events_of}
 use Rattle.graph_store.specs.Contents.{Contents}
 use Rattle.view_trait.specs.Meaning.{node_at, edge_at}
@@ -25,6 +26,17 @@ node_count_on c (Only nodes edges) = length nodes.now
 abbrev pub edge_count_on : Contents → Roster → ℕ
 edge_count_on c Whole = length c.edges
 edge_count_on c (Only nodes edges) = length edges.now
+
+-- the nodes of some numbers that a store has, and the edges
+abbrev pub nodes_among : Contents → List ℕ → List Entity
+nodes_among c numbers = map (node_at c) (filter (λ n. nat_lt n (length c.nodes)) numbers)
+
+abbrev pub edges_among : Contents → List ℕ → List Entity
+edges_among c numbers = map (edge_at c) (filter (λ e. nat_lt e (length c.edges)) numbers)
+
+-- the nodes and edges on a roster that a store has, nodes first
+abbrev pub entities_on : Contents → Roster → List Entity
+entities_on c r = nodes_among c (nodes_on c r) ++ edges_among c (edges_on c r)
 
 -- each node and each edge that has an event in a world is on a roster
 pub record Covers (c : Contents) (w : World) (r : Roster) : Type 0 where

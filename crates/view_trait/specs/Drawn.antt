@@ -17,12 +17,18 @@ use Rattle.view_trait.specs.Meaning.{IsShown}
 abbrev pub LacksKey : List ℕ → List Event → Type 0
 LacksKey key xs = AllByRecursion (λ (x : Event). prop_value key (props_of x) ≡ None) xs
 
--- a world over a store whose events name only nodes that the accepted events name, and set only keys that these set
+-- a world over a store whose events name only nodes that the accepted events name, and set only
+-- keys that these set
 pub record IsDrawn (c : Contents) (w : World) : Type 0 where
   pub shown : IsShown c w
-  pub nodes : (name : List ℕ) → names_node w.events name ≡ true → names_node (base_of c).events name ≡ true
-  pub node_keys : (key name : List ℕ) → list_any (same_name key) (key_names (node_events c.accepted)) ≡ false → LacksKey key (events_of w (Node name))
-  pub edge_keys : (key : List ℕ) (edge : EdgeName) → list_any (same_name key) (key_names (edge_events c.accepted)) ≡ false → LacksKey key (events_of w (Edge edge))
+  pub nodes : (name : List ℕ) → names_node w.events name ≡ true
+      → names_node (base_of c).events name ≡ true
+  pub node_keys : (key name : List ℕ)
+      → list_any (same_name key) (key_names (node_events c.accepted)) ≡ false
+      → LacksKey key (events_of w (Node name))
+  pub edge_keys : (key : List ℕ) (edge : EdgeName)
+      → list_any (same_name key) (key_names (edge_events c.accepted)) ≡ false
+      → LacksKey key (events_of w (Edge edge))
 
 -- a test that those numbers of a table pass whose names are in a list
 abbrev pub Selects : List (List ℕ) → List (List ℕ) → (ℕ → Bool) → Type 0

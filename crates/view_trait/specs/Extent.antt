@@ -1,11 +1,16 @@
 -- How many events a list has, and its first and last time.
-use Rattle.std.specs.Prelude.{ℕ, ℤ, ◌+◌, ◌*◌, List, [], ◌∷◌, length, Option, Some, None}
+use Rattle.std.specs.Prelude.{ℕ, ℤ, ◌+◌, ◌*◌, List, [], ◌∷◌, length, nat_lt}
+use Rattle.std.specs.Prelude.{Option, Some, None, if◌then◌else◌}
 use Rattle.std.specs.Int.{int_max, int_min}
 use Rattle.graph_model.specs.declared.events.Event.{Event}
 use Rattle.graph_model.specs.Searches.{Searches}
 use Rattle.graph_model.specs.Windows.{last_time}
+use Rattle.graph_model.specs.World.{World, events_of}
 use Rattle.graph_store.specs.Contents.{Contents}
+use Rattle.view_trait.specs.Coverage.{edge_count_on, node_count_on}
+use Rattle.view_trait.specs.Meaning.{node_at, edge_at}
 use Rattle.view_trait.specs.declared.extent_of_view.WorldExtent.{WorldExtent}
+use Rattle.view_trait.specs.declared.rosters.Roster.{Roster}
 
 -- the time of the first event, and of the last
 abbrev pub time_of_first : List Event → Option ℤ
@@ -31,6 +36,14 @@ later_of None b = b
 later_of (Some a) None = Some a
 later_of (Some a) (Some b) = Some (int_max a b)
 
--- the searches for the spans of all nodes and of all edges
-abbrev pub span_searches : Contents → Searches → ℕ
-span_searches c s = length c.nodes * s.nodes + length c.edges * s.edges
+-- the events of the node of a number in a world, and of the edge; a number that the store does
+-- not have stands for none
+abbrev pub events_of_node : Contents → World → ℕ → List Event
+events_of_node c w n = if nat_lt n (length c.nodes) then events_of w (node_at c n) else []
+
+abbrev pub events_of_edge : Contents → World → ℕ → List Event
+events_of_edge c w e = if nat_lt e (length c.edges) then events_of w (edge_at c e) else []
+
+-- the searches for the spans of the nodes and edges on a roster
+abbrev pub span_searches : Contents → Roster → Searches → ℕ
+span_searches c r s = node_count_on c r * s.nodes + edge_count_on c r * s.edges

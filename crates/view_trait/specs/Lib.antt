@@ -6,3 +6,4 @@ pub mod Ready
 pub mod Extent
 pub mod Drawn
 pub mod Coverage
+pub mod Contacts

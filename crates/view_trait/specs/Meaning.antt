@@ -16,7 +16,8 @@ use Rattle.time_history.specs.declared.span.Span.{Span}
 use Rattle.time_history.specs.Telling.{events_told, Fits}
 use Rattle.time_history.specs.Spans.{IsSpan, IsTaken}
 use Rattle.graph_store.specs.EdgeParts.{parts_at}
-use Rattle.graph_store.specs.Contents.{Contents, name_at, edge_name, edge_entities, base_of, key_names_for}
+use Rattle.graph_store.specs.Contents.{Contents, name_at, edge_name, edge_entities, base_of}
+use Rattle.graph_store.specs.Contents.{key_names_for}
 use Rattle.graph_store.specs.Indexed.{IsIndexed}
 
 -- the entities that numbers name
@@ -34,7 +35,8 @@ abbrev pub knows : Contents → Entity → Bool
 knows c (Node name) = list_any (same_name name) c.nodes
 knows c (Edge edge) = list_any (same_entity (Edge edge)) (edge_entities c.nodes c.layers c.edges)
 
--- a lawful world under a store's model, with events of the store's entities alone, and with the store's types of the nodes that its events name
+-- a lawful world under a store's model, with events of the store's entities alone, and with the
+-- store's types of the nodes that its events name
 pub record IsShown (c : Contents) (w : World) : Type 0 where
   pub indexed : IsIndexed c
   pub few_layers : length c.layers ≤ 64
@@ -48,7 +50,8 @@ pub record Tells (c : Contents) (x : Entity) (us : List Update) : Type 0 where
   pub told : events_told x (key_names_for c x) us ≡ events_of (base_of c) x
   pub fits : Fits x us
 
--- a span of such updates, taken under a world's model and bounds, that spells the entity's events in the world
+-- a span of such updates, taken under a world's model and bounds, that spells the entity's events
+-- in the world
 pub record Shows (c : Contents) (w : World) (x : Entity) (s : Span) : Type 0 where
   pub span : (us : List Update) → Tells c x us → IsSpan us s
   pub taken : (us : List Update) → Tells c x us → IsTaken w.model w.bounds us s
@@ -56,7 +59,8 @@ pub record Shows (c : Contents) (w : World) (x : Entity) (s : Span) : Type 0 whe
 
 -- edges in layers whose bits are not in a number have no event
 pub record HasLayers (c : Contents) (w : World) (kept : ℕ) : Type 0 where
-  pub none : (e : ℕ) → e < length c.edges → bit_at kept (parts_at c.edges e).layer ≡ 0 → events_of w (edge_at c e) ≡ []
+  pub none : (e : ℕ) → e < length c.edges → bit_at kept (parts_at c.edges e).layer ≡ 0
+      → events_of w (edge_at c e) ≡ []
 
 -- steps from before to after are at most so many searches among so many events
 abbrev pub StepsWithin : ℕ → ℕ → ℕ → ℕ → Type 0

@@ -20,7 +20,8 @@ has_bit bits i = bit_at bits i == 1
 abbrev pub is_listed : List ℕ → ℕ → Bool
 is_listed numbers n = list_any (λ m. m == n) numbers
 
--- the names of the layers with these bits, and of the nodes with these numbers; a number that names nothing selects nothing
+-- the names of the layers with these bits, and of the nodes with these numbers; a number that
+-- names nothing selects nothing
 abbrev pub layers_numbered : Contents → ℕ → List (List ℕ)
 layers_numbered c bits = numbered (has_bit bits) 0 c.layers
 

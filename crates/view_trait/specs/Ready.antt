@@ -7,7 +7,9 @@ use Rattle.graph_model.specs.Window.{window}
 use Rattle.graph_model.specs.Keep.{keep, is_valid}
 use Rattle.graph_store.specs.Contents.{Contents}
 use Rattle.view_trait.specs.declared.ready_ops.ReadyOp.{ReadyOp}
-use Rattle.view_trait.specs.declared.ready_ops.ReadyOp.TheVariants.{Window, Layers, Subgraph, ExcludeNodes, EdgesWhere, NodesWhere, Valid}
+use Rattle.view_trait.specs.declared.ready_ops.ReadyOp.TheVariants.{Window, Layers, Subgraph, Valid}
+use Rattle.view_trait.specs.declared.ready_ops.ReadyOp.TheVariants.{ExcludeNodes}
+use Rattle.view_trait.specs.declared.ready_ops.ReadyOp.TheVariants.{EdgesWhere, NodesWhere}
 use Rattle.view_trait.specs.Numbered.{layer_world, node_world}
 use Rattle.view_trait.specs.Filtered.{edge_filtered, node_filtered}
 
@@ -38,5 +40,6 @@ ready_kind Valid = IsOtherFilter
 
 -- the ends of a window are bounds
 abbrev pub in_range : ReadyOp → Bool
-in_range (Window a b) = (int_le earliest a && int_le a latest) && (int_le earliest b && int_le b latest)
+in_range (Window a b) =
+    (int_le earliest a && int_le a latest) && (int_le earliest b && int_le b latest)
 in_range _ = true

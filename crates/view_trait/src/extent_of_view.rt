@@ -1,13 +1,17 @@
 //! How many events a view shows, and its first and last time.
-ghost use Rattle.std.specs.Prelude.{◌≡◌, ℕ, ◌≤◌, ◌<◌, ◌+◌, ◌-◌, ◌*◌, ◌^◌, List, [], length, if◌then◌else◌};
-ghost use Rattle.graph_model.specs.World.{events_of};
+ghost use Rattle.std.specs.Prelude.{◌≡◌, ℕ, ◌≤◌, ◌<◌, ◌+◌, ◌-◌, ◌*◌, ◌^◌, List, [], length};
+ghost use Rattle.std.specs.Prelude.{if◌then◌else◌};
+ghost use Rattle.graph_model.specs.Limits.{most_events};
 ghost use Rattle.graph_model.specs.Searches.{digits};
 ghost use Rattle.graph_model.specs.declared.events.Entity.{Entity};
 ghost use Rattle.time_history.specs.Spans.{IsSpan, spelled};
 ghost use Rattle.time_history.specs.Telling.{Fits};
-ghost use Rattle.view_trait.specs.Extent.{extent_of, time_of_first, time_of_last, earlier_of, later_of, span_searches};
-ghost use Rattle.view_trait.specs.Meaning.{node_at, edge_at};
+ghost use Rattle.view_trait.specs.Coverage.{Covers, edge_count_on, node_count_on};
+ghost use Rattle.view_trait.specs.Extent.{extent_of, time_of_first, time_of_last, earlier_of};
+ghost use Rattle.view_trait.specs.Extent.{later_of, events_of_edge, events_of_node, span_searches};
 
+use crate::facts::roster_facts;
+use crate::rosters::Roster;
 use crate::view::View;
 use graph_store::{EdgeId, NodeId};
 use std::sync::ledger::Ledger;
@@ -75,7 +79,8 @@ impl WorldExtent {
 /// The time of the first event of a span, of which one that is carried is at `lo`.
 fn first_of<L: Ledger>(history: &History, span: Span, lo: i64, steps: &mut Steps<L>) -> Option<i64>
     requires { IsSpan history.now.updates span }
-    ensures time { (x : Entity) (names : ℕ → List ℕ) → Fits x history.now.updates → result ≡ time_of_first (spelled x names history.now.updates span lo) }
+    ensures time { (x : Entity) (names : ℕ → List ℕ) → Fits x history.now.updates
+        → result ≡ time_of_first (spelled x names history.now.updates span lo) }
     ensures cost { steps.new ≤ steps.old + 1 }
 {
     if span.carried {
@@ -90,7 +95,8 @@ fn first_of<L: Ledger>(history: &History, span: Span, lo: i64, steps: &mut Steps
 /// The time of the last event of a span, of which one that is carried is at `lo`.
 fn last_of<L: Ledger>(history: &History, span: Span, lo: i64, steps: &mut Steps<L>) -> Option<i64>
     requires { IsSpan history.now.updates span }
-    ensures time { (x : Entity) (names : ℕ → List ℕ) → Fits x history.now.updates → result ≡ time_of_last (spelled x names history.now.updates span lo) }
+    ensures time { (x : Entity) (names : ℕ → List ℕ) → Fits x history.now.updates
+        → result ≡ time_of_last (spelled x names history.now.updates span lo) }
     ensures cost { steps.new ≤ steps.old + 1 }
 {
     if span.from < span.to {
@@ -118,7 +124,8 @@ fn span_extent<L: Ledger>(
     steps: &mut Steps<L>,
 ) -> WorldExtent
     requires { IsSpan history.now.updates span }
-    ensures extent { (x : Entity) (names : ℕ → List ℕ) → Fits x history.now.updates → result ≡ extent_of (spelled x names history.now.updates span lo) }
+    ensures extent { (x : Entity) (names : ℕ → List ℕ) → Fits x history.now.updates
+        → result ≡ extent_of (spelled x names history.now.updates span lo) }
     ensures few { result.events ≤ length history.now.updates }
     ensures cost { steps.new ≤ steps.old + 2 }
 {
@@ -129,47 +136,63 @@ fn span_extent<L: Ledger>(
     }
 }
 
-/// The extent of a node's own events.
+/// The extent of a node's own events. A number that the store does not have stands for none.
 fn node_extent<V: View, L: Ledger>(view: &V, n: NodeId, steps: &mut Steps<L>) -> WorldExtent
-    requires { n.0 < length (V.contents view.now).nodes }
-    ensures extent { result ≡ extent_of (events_of (V.world view.now) (node_at (V.contents view.now) n.0)) }
-    ensures few { result.events ≤ 4194304 }
-    ensures cost { let among = length (V.contents view.now).accepted in steps.new ≤ steps.old + (V.searches view.now).nodes * (digits among + 1) + 2 }
+    ensures extent { let c = V.contents view.now in
+        result ≡ extent_of (events_of_node c (V.world view.now) n.0) }
+    ensures few { result.events ≤ most_events }
+    ensures cost { let among = length (V.contents view.now).accepted in
+        let searches = (V.searches view.now).nodes in
+        steps.new ≤ steps.old + searches * (digits among + 1) + 2 }
 {
     let store = view.store();
-    // A call for its fact: a store has no more than 4,194,304 events.
+    if n.0 >= store.nodes() {
+        return WorldExtent::new();
+    }
+    // A call for its fact: a store has no more events than it may have.
     let _few = store.events();
     let span = view.node_span(n, steps);
     span_extent(store.node_history(n), span, view.bounds().lo(), steps)
 }
 
-/// The extent of an edge's events.
+/// The extent of an edge's events. A number that the store does not have stands for none.
 fn edge_extent<V: View, L: Ledger>(view: &V, e: EdgeId, steps: &mut Steps<L>) -> WorldExtent
-    requires { e.0 < length (V.contents view.now).edges }
-    ensures extent { result ≡ extent_of (events_of (V.world view.now) (edge_at (V.contents view.now) e.0)) }
-    ensures few { result.events ≤ 4194304 }
-    ensures cost { let among = length (V.contents view.now).accepted in steps.new ≤ steps.old + (V.searches view.now).edges * (digits among + 1) + 2 }
+    ensures extent { let c = V.contents view.now in
+        result ≡ extent_of (events_of_edge c (V.world view.now) e.0) }
+    ensures few { result.events ≤ most_events }
+    ensures cost { let among = length (V.contents view.now).accepted in
+        let searches = (V.searches view.now).edges in
+        steps.new ≤ steps.old + searches * (digits among + 1) + 2 }
 {
     let store = view.store();
-    // A call for its fact: a store has no more than 4,194,304 events.
+    if e.0 >= store.edges() {
+        return WorldExtent::new();
+    }
+    // A call for its fact: a store has no more events than it may have.
     let _few = store.events();
     let span = view.edge_span(e, steps);
     span_extent(store.edge_history(e), span, view.bounds().lo(), steps)
 }
 
-/// How many events the world of a view has, and the first and last time of one. It asks for each
-/// span once, reads at most two times in each, and takes no memory.
-pub fn extent<V: View, L: Ledger>(view: &V, steps: &mut Steps<L>) -> WorldExtent
+/// How many events the world of a view has, and the first and last time of one. It is the same for
+/// every roster that covers the view. The span of each node and each edge on the roster is asked
+/// once, and at most two times are read in each. It takes no memory.
+pub fn extent<V: View, L: Ledger>(view: &V, roster: Roster<'_>, steps: &mut Steps<L>) -> WorldExtent
+    requires covers { Covers (V.contents view.now) (V.world view.now) roster }
     ensures extent { result ≡ extent_of (V.world view.now).events }
-    ensures cost { let c = V.contents view.now in steps.new ≤ steps.old + span_searches c (V.searches view.now) * (digits (length c.accepted) + 1) + 2 * (length c.nodes + length c.edges) }
+    ensures cost { let c = V.contents view.now in
+        let searches = span_searches c roster.entry (V.searches view.now) in
+        let readings = 2 * (node_count_on c roster.entry + edge_count_on c roster.entry) in
+        steps.new ≤ steps.old + searches * (digits (length c.accepted) + 1) + readings }
 {
     let store = view.store();
+    roster_facts(store, roster);
     let mut all = WorldExtent::new();
-    for n in 0..store.nodes() {
-        all = all.with(node_extent(view, NodeId(n), steps));
+    for i in 0..roster.node_count_on(store) {
+        all = all.with(node_extent(view, roster.node(store, i), steps));
     }
-    for e in 0..store.edges() {
-        all = all.with(edge_extent(view, EdgeId(e), steps));
+    for j in 0..roster.edge_count_on(store) {
+        all = all.with(edge_extent(view, roster.edge(store, j), steps));
     }
     all
 }

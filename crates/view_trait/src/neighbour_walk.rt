@@ -3,7 +3,8 @@ ghost use Rattle.std.specs.Prelude.{◌≡◌, ◌<◌, length};
 ghost use Rattle.graph_model.specs.declared.queries.Direction.TheVariants.{Outward};
 ghost use Rattle.graph_model.specs.Neighbours.{leads};
 ghost use Rattle.graph_store.specs.Contents.{name_at};
-ghost use Rattle.view_trait.specs.Present.{AreNeighbours, is_new_start, out_left, into_left, ArePairs, IsNextNeighbour};
+ghost use Rattle.view_trait.specs.Present.{AreNeighbours, is_new_start, out_left, into_left};
+ghost use Rattle.view_trait.specs.Present.{ArePairs, IsNextNeighbour};
 
 use crate::presence::pair_present;
 use crate::view::View;
@@ -30,7 +31,8 @@ impl<'v, V: View> Model for NeighbourWalk<'v, V> {
 
     ghost Value = { List ℕ };
 
-    ghost view = { λ w. numbers_left (V.contents w.view.now) (V.world w.view.now) w.node.0 w.both w.out w.into };
+    ghost view = { λ w.
+        numbers_left (V.contents w.view.now) (V.world w.view.now) w.node.0 w.both w.out w.into };
 
     ghost invariant = { λ w. IsNeighbourWalk (V.contents w.view.now) w.node.0 w.out w.into };
 }
@@ -87,7 +89,8 @@ fn next_end<V: View, L: Ledger>(
     steps: &mut Steps<L>,
 ) -> Option<NodeId>
     requires { ArePairs (V.contents view.now) out.old }
-    ensures next { IsNextNeighbour (out_left (V.contents view.now) (V.world view.now) out.old) (out_left (V.contents view.now) (V.world view.now) out.new) result }
+    ensures next { let left = out_left (V.contents view.now) (V.world view.now) in
+        IsNextNeighbour (left out.old) (left out.new) result }
     ensures pairs { ArePairs (V.contents view.now) out.new }
 {
     let Some(pairs) = out else {
@@ -112,7 +115,8 @@ fn next_start<V: View, L: Ledger>(
 ) -> Option<NodeId>
     requires node { n.0 < length (V.contents view.now).nodes }
     requires pairs { ArePairs (V.contents view.now) into.old }
-    ensures next { IsNextNeighbour (into_left (V.contents view.now) (V.world view.now) n.0 both into.old) (into_left (V.contents view.now) (V.world view.now) n.0 both into.new) result }
+    ensures next { let left = into_left (V.contents view.now) (V.world view.now) n.0 both in
+        IsNextNeighbour (left into.old) (left into.new) result }
     ensures pairs { ArePairs (V.contents view.now) into.new }
 {
     let Some(pairs) = into else {
@@ -147,7 +151,8 @@ fn gives_start<V: View, L: Ledger>(
 fn leads_to<V: View, L: Ledger>(view: &V, src: NodeId, dst: NodeId, steps: &mut Steps<L>) -> bool
     requires src { src.0 < length (V.contents view.now).nodes }
     requires dst { dst.0 < length (V.contents view.now).nodes }
-    ensures { result ≡ leads (V.world view.now) Outward (name_at (V.contents view.now).nodes src.0) (name_at (V.contents view.now).nodes dst.0) }
+    ensures { let name = name_at (V.contents view.now).nodes in
+        result ≡ leads (V.world view.now) Outward (name src.0) (name dst.0) }
 {
     match view.store().pair_of(src, dst) {
         Some(p) => pair_present(view, p, steps),

@@ -1,9 +1,11 @@
 //! Numbers of layers and nodes, and what is asked of them.
-ghost use Rattle.std.specs.Prelude.{◌≡◌, ◌<◌, ◌&&◌, [], length, slice_get, Some, false, OnOk, OnErr};
+ghost use Rattle.std.specs.Prelude.{◌≡◌, ◌<◌, ◌&&◌, [], length, slice_get, Some, false};
+ghost use Rattle.std.specs.Prelude.{OnOk, OnErr};
 ghost use Rattle.std.specs.Ordering.{nat_cmp};
-ghost use Rattle.graph_model.specs.Rising.{put_rising};
+ghost use Rattle.graph_model.specs.Rising.{put_rising, rising};
 ghost use Rattle.view_trait.specs.Numbered.{has_bit, is_listed, keeps_number};
 
+use crate::sorted_numbers::{put_number, refill_numbers};
 use graph_model::Memory;
 use graph_store::NodeId;
 use std::alloc::Global;
@@ -61,13 +63,16 @@ impl NodeList {
         ensures ok { OnOk result (self.new ≡ put_rising nat_cmp n.0 self.old) }
         ensures err { OnErr result (self.new ≡ self.old) }
     {
-        match self.items.binary_search(&n.0) {
-            Ok(_) => Ok(()),
-            Err(place) => {
-                self.items.insert(place, n.0)?;
-                Ok(())
-            }
-        }
+        put_number(&mut self.items, n.0)
+    }
+
+    /// Has the distinct ones of some numbers in place of those that were there. What memory the
+    /// list has serves again; where more is wanting, it has no node.
+    pub fn refill(&mut self, numbers: &[u32]) -> Result<(), Memory>
+        ensures ok { OnOk result (self.new ≡ rising nat_cmp numbers.now) }
+        ensures err { OnErr result (self.new ≡ []) }
+    {
+        refill_numbers(&mut self.items, numbers)
     }
 
     /// Whether a node is there.
@@ -95,7 +100,8 @@ pub fn has_node(nodes: &NodeList, keeps: bool, n: NodeId) -> bool
 
 /// Whether both ends of an edge are kept.
 pub fn has_nodes(nodes: &NodeList, keeps: bool, src: NodeId, dst: NodeId) -> bool
-    ensures { result ≡ (keeps_number keeps (is_listed nodes.now src.0) && keeps_number keeps (is_listed nodes.now dst.0)) }
+    ensures { result ≡ (keeps_number keeps (is_listed nodes.now src.0)
+        && keeps_number keeps (is_listed nodes.now dst.0)) }
 {
     has_node(nodes, keeps, src) && has_node(nodes, keeps, dst)
 }

@@ -3,7 +3,8 @@ ghost use Rattle.std.specs.Prelude.{◌≡◌, ◌<◌, ◌||◌, ◌*◌, lengt
 ghost use Rattle.std.specs.List.{AllByRecursion, list_any};
 ghost use Rattle.graph_model.specs.Entity.{is_about};
 ghost use Rattle.graph_model.specs.declared.events.Model.TheVariants.{Event as Instants};
-ghost use Rattle.graph_model.specs.Presence.{edge_present as is_edge_present, node_present as is_node_present};
+ghost use Rattle.graph_model.specs.Presence.{edge_present as is_edge_present};
+ghost use Rattle.graph_model.specs.Presence.{node_present as is_node_present};
 ghost use Rattle.graph_store.specs.PairIndex.{pairs_from, pairs_to};
 ghost use Rattle.graph_store.specs.Contents.{name_at};
 ghost use Rattle.view_trait.specs.Meaning.{StepsWithin, node_at, edge_named};
@@ -17,8 +18,11 @@ use time_column::Steps;
 /// Whether an edge is present.
 pub fn edge_present<V: View, L: Ledger>(view: &V, e: EdgeId, steps: &mut Steps<L>) -> bool
     requires { e.0 < length (V.contents view.now).edges }
-    ensures present { result ≡ is_edge_present (V.world view.now) (edge_named (V.contents view.now) e.0) }
-    ensures cost { (V.world view.now).model ≡ Instants → StepsWithin steps.old steps.new (V.searches view.now).edges (length (V.contents view.now).accepted) }
+    ensures present { let edge = edge_named (V.contents view.now) e.0 in
+        result ≡ is_edge_present (V.world view.now) edge }
+    ensures cost { let among = length (V.contents view.now).accepted in
+        (V.world view.now).model ≡ Instants
+        → StepsWithin steps.old steps.new (V.searches view.now).edges among }
 {
     let store = view.store();
     let span = view.edge_span(e, steps);
@@ -28,11 +32,15 @@ pub fn edge_present<V: View, L: Ledger>(view: &V, e: EdgeId, steps: &mut Steps<L
 }
 
 /// Whether a pair is present: a present edge leads from its source to its destination. In the event
-/// model each edge of the pair is searched once at the most; in the other no clause bounds the steps.
+/// model each edge of the pair is searched once at the most; in the other no clause bounds the
+/// steps.
 pub fn pair_present<V: View, L: Ledger>(view: &V, p: PairId, steps: &mut Steps<L>) -> bool
     requires { p.0 < length (V.contents view.now).pairs }
     ensures present { result ≡ pair_leads (V.contents view.now) (V.world view.now) p.0 }
-    ensures cost { let c = V.contents view.now in (V.world view.now).model ≡ Instants → StepsWithin steps.old steps.new (edge_count c p.0 * (V.searches view.now).edges) (length c.accepted) }
+    ensures cost { let c = V.contents view.now in
+        let searches = edge_count c p.0 * (V.searches view.now).edges in
+        (V.world view.now).model ≡ Instants
+        → StepsWithin steps.old steps.new searches (length c.accepted) }
 {
     let mut edges = view.store().edges_of(p);
     while let Some(e) = edges.next() {
@@ -60,7 +68,9 @@ fn any_pair_present<V: View, L: Ledger>(view: &V, pairs: PairWalk<'_>, steps: &m
 /// Whether a present edge begins or ends at a node.
 fn has_present_pair<V: View, L: Ledger>(view: &V, n: NodeId, steps: &mut Steps<L>) -> bool
     requires { n.0 < length (V.contents view.now).nodes }
-    ensures { result ≡ (any_pair_leads (V.contents view.now) (V.world view.now) (pairs_from (V.contents view.now).pairs n.0) || any_pair_leads (V.contents view.now) (V.world view.now) (pairs_to (V.contents view.now).pairs n.0)) }
+    ensures { let c = V.contents view.now in
+        let leads = any_pair_leads c (V.world view.now) in
+        result ≡ (leads (pairs_from c.pairs n.0) || leads (pairs_to c.pairs n.0)) }
 {
     let store = view.store();
     any_pair_present(view, store.out_pairs(n), steps)
@@ -84,7 +94,8 @@ pub fn has_event<V: View, L: Ledger>(view: &V, n: NodeId, steps: &mut Steps<L>) 
 /// bounds its steps: without an event of its own it asks its pairs until one is present.
 pub fn node_present<V: View, L: Ledger>(view: &V, n: NodeId, steps: &mut Steps<L>) -> bool
     requires { n.0 < length (V.contents view.now).nodes }
-    ensures { result ≡ is_node_present (V.world view.now) (name_at (V.contents view.now).nodes n.0) }
+    ensures { let node = name_at (V.contents view.now).nodes n.0 in
+        result ≡ is_node_present (V.world view.now) node }
 {
     has_event(view, n, steps) || has_present_pair(view, n, steps)
 }

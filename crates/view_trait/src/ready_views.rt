@@ -33,7 +33,7 @@ fn layer_bits(store: &Store, names: &NameList) -> u64
 }
 
 /// The numbers of the nodes of these names. A name that no node has adds none.
-fn nodes_of(alloc: Global, store: &Store, names: &NameList) -> Result<NodeList, Memory>
+pub fn nodes_of(alloc: Global, store: &Store, names: &NameList) -> Result<NodeList, Memory>
     ensures { IfOk result (λ nodes. Selects store.now.nodes names.now (is_listed nodes)) }
 {
     store_facts(store);
@@ -63,7 +63,9 @@ fn types_of(alloc: Global, store: &Store, names: &NameList) -> Result<Vec<u32>, 
 /// Whether the type of a node is among some.
 fn has_kind(store: &Store, n: NodeId, kinds: &[u32]) -> bool
     requires { n.0 < length store.now.nodes }
-    ensures { (names : List (List ℕ)) → Selects store.now.kinds names (is_listed kinds.now) → result ≡ has_type store.now.types names (name_at store.now.nodes n.0) }
+    ensures { (names : List (List ℕ))
+        → Selects store.now.kinds names (is_listed kinds.now)
+        → result ≡ has_type store.now.types names (name_at store.now.nodes n.0) }
 {
     match store.type_of(n) {
         Some(kind) => kinds.contains(&kind),
@@ -73,7 +75,9 @@ fn has_kind(store: &Store, n: NodeId, kinds: &[u32]) -> bool
 
 /// The numbers of the nodes that have a type of one of these names.
 fn typed_nodes(alloc: Global, store: &Store, names: &NameList) -> Result<NodeList, Memory>
-    ensures { IfOk result (λ nodes. (n : ℕ) → n < length store.now.nodes → is_listed nodes n ≡ has_type store.now.types names.now (name_at store.now.nodes n)) }
+    ensures { let typed = has_type store.now.types names.now in
+        IfOk result (λ nodes. (n : ℕ) → n < length store.now.nodes
+        → is_listed nodes n ≡ typed (name_at store.now.nodes n)) }
 {
     let kinds = types_of(alloc, store, names)?;
     let mut nodes = NodeList::new(alloc);
@@ -88,7 +92,8 @@ fn typed_nodes(alloc: Global, store: &Store, names: &NameList) -> Result<NodeLis
 /// A view by the numbers of its names, which shows the same of each world over the store.
 fn ready_op(alloc: Global, store: &Store, op: &Op) -> Result<ReadyOp, Memory>
     requires { op_in_range op.now ≡ true }
-    ensures view { IfOk result (λ ready. (w : World) → IsDrawn store.now w → ready_view store.now w ready ≡ view_of w op.now) }
+    ensures view { IfOk result (λ ready. (w : World) → IsDrawn store.now w
+        → ready_view store.now w ready ≡ view_of w op.now) }
     ensures in_range { IfOk result (λ ready. in_range ready ≡ true) }
     ensures kind { IfOk result (λ ready. ready_kind ready ≡ kind_of_view op.now) }
 {
@@ -116,9 +121,11 @@ fn ready_op(alloc: Global, store: &Store, op: &Op) -> Result<ReadyOp, Memory>
 /// nothing, and a key that it does not have has no number. No stored time is read.
 pub fn ready(alloc: Global, store: &Store, views: &OpList) -> Result<ReadyOps, Memory>
     requires { list_all op_in_range views.now ≡ true }
-    ensures base { IfOk result (λ ops. ready_apply store.now ops (base_of store.now) ≡ apply views.now (base_of store.now)) }
+    ensures base { let base = base_of store.now in
+        IfOk result (λ ops. ready_apply store.now ops base ≡ apply views.now base) }
     // So it is with each world that shows what the accepted events say.
-    ensures world { IfOk result (λ ops. (w : World) → IsDrawn store.now w → ready_apply store.now ops w ≡ apply views.now w) }
+    ensures world { IfOk result (λ ops. (w : World) → IsDrawn store.now w
+        → ready_apply store.now ops w ≡ apply views.now w) }
     ensures in_range { IfOk result (λ ops. list_all in_range ops ≡ true) }
     ensures kinds { IfOk result (λ ops. map ready_kind ops ≡ map kind_of_view views.now) }
 {

@@ -1,10 +1,11 @@
 //! Rosters: the nodes and edges among which a call has to look.
 ghost use Rattle.std.specs.Prelude.{◌≡◌, ◌<◌, [], length, slice_get, Some, OnOk, OnErr};
 ghost use Rattle.std.specs.Ordering.{nat_cmp};
-ghost use Rattle.graph_model.specs.Rising.{put_rising};
+ghost use Rattle.graph_model.specs.Rising.{put_rising, rising};
 ghost use Rattle.view_trait.specs.Coverage.{edge_count_on, edges_on, node_count_on, nodes_on};
 
 use crate::numbers::NodeList;
+use crate::sorted_numbers::{put_number, refill_numbers};
 use graph_model::Memory;
 use graph_store::{EdgeId, NodeId, Store};
 use std::alloc::Global;
@@ -61,13 +62,16 @@ impl EdgeList {
         ensures ok { OnOk result (self.new ≡ put_rising nat_cmp e.0 self.old) }
         ensures err { OnErr result (self.new ≡ self.old) }
     {
-        match self.items.binary_search(&e.0) {
-            Ok(_) => Ok(()),
-            Err(place) => {
-                self.items.insert(place, e.0)?;
-                Ok(())
-            }
-        }
+        put_number(&mut self.items, e.0)
+    }
+
+    /// Has the distinct ones of some numbers in place of those that were there. What memory the
+    /// list has serves again; where more is wanting, it has no edge.
+    pub fn refill(&mut self, numbers: &[u32]) -> Result<(), Memory>
+        ensures ok { OnOk result (self.new ≡ rising nat_cmp numbers.now) }
+        ensures err { OnErr result (self.new ≡ []) }
+    {
+        refill_numbers(&mut self.items, numbers)
     }
 }
 

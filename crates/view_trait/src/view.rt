@@ -3,7 +3,8 @@ ghost use Rattle.std.specs.Prelude.{◌≡◌, ◌<◌, length};
 ghost use Rattle.graph_model.specs.World.{World, events_of};
 ghost use Rattle.graph_model.specs.Searches.{Searches};
 ghost use Rattle.graph_store.specs.Contents.{Contents, base_of};
-ghost use Rattle.view_trait.specs.Meaning.{IsShown, Shows, HasLayers, StepsWithin, node_at, edge_at};
+ghost use Rattle.view_trait.specs.Meaning.{IsShown, Shows, HasLayers, StepsWithin};
+ghost use Rattle.view_trait.specs.Meaning.{node_at, edge_at};
 
 use graph_model::Bounds;
 use graph_store::{EdgeId, NodeId, Store};
@@ -37,14 +38,19 @@ pub trait View {
     /// The part of a node's history that stands for its events in the world.
     fn node_span<L: Ledger>(&self, n: NodeId, steps: &mut Steps<L>) -> Span
         requires { n.0 < length (contents self.now).nodes }
-        ensures shows { Shows (contents self.now) (world self.now) (node_at (contents self.now) n.0) result }
-        ensures cost { StepsWithin steps.old steps.new (searches self.now).nodes (length (events_of (base_of (contents self.now)) (node_at (contents self.now) n.0))) };
+        ensures shows { let c = contents self.now in
+            Shows c (world self.now) (node_at c n.0) result }
+        ensures cost { let c = contents self.now in
+            let among = length (events_of (base_of c) (node_at c n.0)) in
+            StepsWithin steps.old steps.new (searches self.now).nodes among };
 
     /// The part of an edge's history that stands for its events in the world.
     fn edge_span<L: Ledger>(&self, e: EdgeId, steps: &mut Steps<L>) -> Span
         requires { e.0 < length (contents self.now).edges }
-        ensures shows { Shows (contents self.now) (world self.now) (edge_at (contents self.now) e.0) result }
-        ensures cost { StepsWithin steps.old steps.new (searches self.now).edges (length (contents self.now).accepted) };
+        ensures shows { let c = contents self.now in
+            Shows c (world self.now) (edge_at c e.0) result }
+        ensures cost { let among = length (contents self.now).accepted in
+            StepsWithin steps.old steps.new (searches self.now).edges among };
 
     /// The world is lawful, has the store's model and types, and is over the store's entities.
     ghost shown: { (view : Self) → IsShown (contents view) (world view) };

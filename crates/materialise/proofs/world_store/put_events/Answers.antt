@@ -5,7 +5,7 @@ use Rattle.graph_model.specs.Accepting.{event_refusal}
 use Rattle.graph_model.specs.Interval.{Interval, is_inside}
 use Rattle.graph_model.specs.World.{World}
 use Rattle.world_laws.proofs.Lawful.{each_passes}
-use Rattle.time_history.proofs.Held.{each_at}
+use Rattle.world_laws.proofs.ListItems.{each_at}
 use Rattle.materialise.proofs.TakenInTurn.{each_event_taken}
 use Rattle.materialise.proofs.world_store.put_events.Goals as goal
 

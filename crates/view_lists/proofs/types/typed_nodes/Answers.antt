@@ -13,7 +13,7 @@ loop-n-preserved g c =
     let flag = get_or c.args.flags.now n false in
     let count = c.nodes-n-end.ensures.len ∙ ap (λ (s : Contents). length s.nodes) c.store-store.ensures in
     let lt : n < length contents.nodes = (let test = c.loop-n-test.true in omega (arith, count, test)) in
-    let is : flag ≡ names_node world.events (name_at contents.nodes n) = c.requires.marked.marked n lt ∙ named_shown contents world (g.met.V.View.shown c.args.view.now) c.args.shown.now c.requires.entities (name_at contents.nodes n) in
+    let is : flag ≡ names_node world.events (name_at contents.nodes n) = c.requires.marked.marked n lt ∙ named_shown contents world (g.met.V.View.shown c.args.view.now) c.args.shown.now c.requires.found (name_at contents.nodes n) in
     typed_more contents (names_node world.events) n flag (types_listed c.loop-n.typed.items) (types_listed c.push_typed.new.typed.items) lt is c.loop-n.invariant
     (c.in_ok-push_typed.ensures ∙ ap (λ (s : Contents). types_listed c.loop-n.typed.items ++ cond flag (typed_node s.types (name_at s.nodes n)) []) c.store-store.ensures)
 

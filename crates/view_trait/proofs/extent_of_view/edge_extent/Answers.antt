@@ -1,11 +1,16 @@
-use Rattle.std.proofs.Common.{◌∙◌, ap, rules, arith, length}
+use Rattle.std.proofs.Common.{◌≡◌, ◌∙◌, ap, sym, rules, arith, length, true, false, []}
+use Rattle.std.specs.Prelude.{nat_lt}
 use Rattle.std.specs.Int.{w64}
+use Rattle.std.proofs.lemmas.Bool.{cond-true, cond-false, lt-ltb}
+use Rattle.std.proofs.lemmas.Bool.Decides.{nat_tests}
 use Rattle.std.proofs.lemmas.Int.{to_z-of_z}
 use Rattle.graph_model.specs.Accepting.{Events}
 use Rattle.graph_model.specs.Interval.{Interval}
+use Rattle.graph_model.specs.World.{events_of}
 use Rattle.time_history.specs.Spans.{spelled}
 use Rattle.graph_store.specs.Contents.{Contents, key_names_for}
 use Rattle.view_trait.specs.Extent.{extent_of}
+use Rattle.view_trait.specs.declared.extent_of_view.WorldExtent.{WorldExtent}
 use Rattle.view_trait.specs.Meaning.{Tells, edge_at}
 use Rattle.view_trait.proofs.Found.{edge_tells, spelled_is}
 use Rattle.view_trait.proofs.SpanTimes.{few_told}
@@ -16,6 +21,17 @@ use Rattle.view_trait.proofs.extent_of_view.edge_extent.Goals as goal
 tells : (g : Over) (c : After-span_extent g) → Tells (g.V.View.contents c.args.view.now) (edge_at (g.V.View.contents c.args.view.now) c.args.e.0) c.edge_history.result.now.updates
 tells g c = edge_tells c.store-store.result.now (g.V.View.contents c.args.view.now) c.args.e.0 c.edge_history.result.now.updates c.store-store.ensures c.edge_history.ensures.told c.edge_history.ensures.fits
 
+pub returns-then-e-edges-clause-extent : goal.returns-then-e-edges-clause-extent
+returns-then-e-edges-clause-extent g c =
+    let contents = g.V.View.contents c.args.view.now in
+    let world = g.V.View.world c.args.view.now in
+    let count = c.edges.ensures ∙ ap (λ (v : Contents). length v.edges) c.store-store.ensures in
+    let unknown : nat_lt c.args.e.0 (length contents.edges) ≡ false = (let le = c.if-e-edges.true in grind (arith, nat_tests, count, le)) in
+    c.new.ensures ∙ ap extent_of (sym (cond-false (nat_lt c.args.e.0 (length contents.edges)) (events_of world (edge_at contents c.args.e.0)) [] unknown))
+
+pub returns-then-e-edges-clause-few : goal.returns-then-e-edges-clause-few
+returns-then-e-edges-clause-few g c = let none = ap (λ (r : WorldExtent). r.events) c.new.ensures in omega (arith, none)
+
 pub returns-clause-extent : goal.returns-clause-extent
 returns-clause-extent g c =
     let contents = g.V.View.contents c.args.view.now in
@@ -24,9 +40,11 @@ returns-clause-extent g c =
     let span = c.edge_span-span.result in
     let x = edge_at contents c.args.e.0 in
     let t = tells g (goal.at.returns-clause-extent g c).After-span_extent in
+    let count = c.edges.ensures ∙ ap (λ (v : Contents). length v.edges) c.store-store.ensures in
+    let known : nat_lt c.args.e.0 (length contents.edges) ≡ true = lt-ltb c.args.e.0 (length contents.edges) (let le = c.if-e-edges.false in omega (arith, count, le)) in
     let lo = to_z-of_z w64 c.lo.result (search rules) ∙ (c.lo.ensures.value ∙ ap (λ (i : Interval). i.lo) c.bounds.ensures) in
     c.span_extent.ensures.extent x (key_names_for contents x) t.fits
-    ∙ (ap (λ z. extent_of (spelled x (key_names_for contents x) us span z)) lo ∙ ap extent_of (spelled_is contents world x us span t c.edge_span-span.ensures.shows))
+    ∙ (ap (λ z. extent_of (spelled x (key_names_for contents x) us span z)) lo ∙ (ap extent_of (spelled_is contents world x us span t c.edge_span-span.ensures.shows) ∙ ap extent_of (sym (cond-true (nat_lt c.args.e.0 (length contents.edges)) (events_of world x) [] known))))
 
 pub returns-clause-few : goal.returns-clause-few
 returns-clause-few g c =

@@ -8,7 +8,8 @@ use Rattle.graph_model.specs.Stack.{apply}
 use Rattle.graph_store.specs.Contents.{base_of}
 use Rattle.view_trait.specs.Ready.{ready_view, ready_apply, ready_kind, in_range}
 use Rattle.view_trait.proofs.Drawn.{IsDrawn-base, IsDrawn-apply}
-use Rattle.view_trait.proofs.ReadyWorlds.{ready_apply-push, apply-push, passes_at, all_push}
+use Rattle.world_laws.proofs.ListItems.{all_push}
+use Rattle.view_trait.proofs.ReadyWorlds.{ready_apply-push, apply-push, passes_at}
 use Rattle.view_trait.proofs.Selected.{take_push}
 use Rattle.view_trait.proofs.ready_views.ready.Goals as goal
 
