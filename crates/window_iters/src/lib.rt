@@ -1,0 +1,9 @@
+//! The windows of an `each` over a view.
+#![tactic(auto)]
+
+mod ends_of_view;
+mod windows;
+
+pub use ends_of_view::ends_over;
+pub use window_ends::{Ends, MOST_WINDOWS, TooMany, WindowEnds};
+pub use windows::{ExpandingWindows, RollingWindows, WindowsOver, expanding, rolling};
