@@ -1,0 +1,4 @@
+pub mod Deleting
+pub mod Filled
+pub mod Listing
+pub mod Shown
