@@ -17,6 +17,7 @@ use Rattle.graph_model.specs.World.{World, IsLawful, allows, arrange, event_cmp,
 use Rattle.graph_model.specs.Presence.{edge_of_entity, edge_present, edges, is_present_at, node_present}
 use Rattle.world_laws.proofs.Filters.{each_weaker}
 use Rattle.world_laws.proofs.Lawful.{each_passes}
+use Rattle.world_laws.proofs.ListItems.{any_map}
 use Rattle.world_laws.proofs.Order.{edge_exact, same_edge-exact, same_edge-refl}
 use Rattle.world_laws.proofs.Members.{any_filter, any_filter_map, any_same, both_true, edges_has, option_passes}
 use Rattle.world_laws.proofs.Nodes.{present_by_addition}
@@ -28,11 +29,11 @@ use Rattle.graph_store.specs.Ends.{same_ends}
 use Rattle.graph_store.specs.EdgeParts.{ends_of}
 use Rattle.graph_store.specs.Contents.{Contents, base_of, edge_name, name_at}
 use Rattle.graph_store.specs.Indexed.{IsIndexed}
-use Rattle.graph_store.proofs.EdgeNames.{each_from}
+use Rattle.world_laws.proofs.ListItems.{each_from}
 use Rattle.graph_store.proofs.LinkLaws.{same_ends-equal, same_ends-own}
 use Rattle.present_links.specs.Links.{HasLinks}
 use Rattle.present_links.proofs.Neighbours.{same_number}
-use Rattle.present_links.proofs.Numbers.{any_each, any_either, any_map, any_of_same}
+use Rattle.present_links.proofs.Numbers.{any_each, any_either, any_of_same}
 
 -- an event of an edge that the event model allows is an addition
 added : (model : Model) (edge : EdgeName) (x : Event) → model ≡ Instants → allows model x ≡ true → (is_about (Edge edge) x && is_addition x) ≡ is_about (Edge edge) x

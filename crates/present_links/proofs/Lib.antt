@@ -3,10 +3,15 @@ pub mod Neighbours
 pub mod Base
 pub mod Sorted
 pub mod Keyed
-pub mod Settled
 pub mod Spent
 pub mod Order
 pub mod Shown
 pub mod Views
 pub mod Listed
 pub mod Present
+pub mod OffsetParts
+pub mod SortedPlaces
+pub mod AmongNumbers
+pub mod Ways
+pub mod WayLists
+pub mod NamedRows

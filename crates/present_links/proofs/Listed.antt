@@ -10,6 +10,7 @@ use Rattle.graph_model.specs.Rising.{rising}
 use Rattle.graph_model.specs.World.{World}
 use Rattle.world_laws.proofs.Counts.{length_filter_le}
 use Rattle.world_laws.proofs.Filters.{any_weaker}
+use Rattle.world_laws.proofs.ListItems.{any_map}
 use Rattle.world_laws.proofs.Members.{any_filter, both_true}
 use Rattle.world_laws.proofs.Present.{some_passes}
 use Rattle.graph_store.specs.declared.pairs.Ends.{Ends}
@@ -25,9 +26,8 @@ use Rattle.view_trait.specs.Numbered.{is_listed}
 use Rattle.view_trait.specs.declared.rosters.Roster.{Roster}
 use Rattle.view_trait.proofs.Covered.{missing_edge}
 use Rattle.present_links.specs.Links.{edge_ends, edge_shown, ends_cmp, has_edge, links_of, pair_shown, rising_links}
-use Rattle.present_links.proofs.Numbers.{any_map}
 use Rattle.present_links.proofs.Order.{ends_exact, ends_total, few_rising}
-use Rattle.present_links.proofs.Settled.{rising_same}
+use Rattle.view_trait.proofs.Settled.{rising_same}
 use Rattle.present_links.proofs.Shown.{any_place, place_from}
 
 module _ (c : Contents) (w : World) (h : IsShown c w) (r : Roster) (covers : Covers c w r) (q : Ends → Bool) where

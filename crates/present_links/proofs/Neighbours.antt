@@ -15,18 +15,20 @@ use Rattle.graph_model.specs.World.{World}
 use Rattle.graph_model.specs.Presence.{nodes}
 use Rattle.graph_model.specs.Neighbours.{leads, neighbours}
 use Rattle.world_laws.proofs.Filters.{each_kept, kept_pass, each_two, each_weaker, filter_again}
+use Rattle.world_laws.proofs.ListItems.{any_map, any_one}
 use Rattle.world_laws.proofs.Order.{name_exact, same_name-exact, same_name-refl}
 use Rattle.world_laws.proofs.RisingFixed.{rising_fixed}
 use Rattle.world_laws.proofs.RisingItems.{Rises-rising, any_rising}
 use Rattle.world_laws.proofs.Members.{any_filter, any_both, both_true}
 use Rattle.world_laws.proofs.Nodes.{neighbours_has, neighbours_rise}
+use Rattle.world_laws.proofs.SortedKeys.{distinct_filter}
 use Rattle.graph_store.specs.declared.pairs.Ends.{Ends}
 use Rattle.graph_store.specs.Ends.{same_ends}
 use Rattle.graph_store.specs.Contents.{name_at}
 use Rattle.graph_store.proofs.Listed.{one_place, list_any-place}
 use Rattle.graph_store.proofs.JudgeLaws.{rises_distinct}
 use Rattle.present_links.specs.Links.{HasLinks, links_from, links_to, links_to_alone, leads_back, names_linked_from, names_linked_to}
-use Rattle.present_links.proofs.Numbers.{any_each, any_map, any_one, distinct_filter, distinct_map}
+use Rattle.present_links.proofs.Numbers.{any_each, distinct_map}
 
 -- the names of distinct nodes are the same where their numbers are
 pub same_number : (names : List (List ℕ)) → IsDistinct same_name names → (i j : ℕ) → i < length names → j < length names → (i == j) ≡ same_name (name_at names i) (name_at names j)

@@ -5,17 +5,15 @@ use Rattle.std.proofs.lemmas.Bool.{cond_both, or_cases, false_from_ne_true, true
 use Rattle.std.proofs.lemmas.Map.Keys.{IsDistinct-head, IsDistinct-tail, IsDistinct-cons, IsDistinct-from_apart}
 use Rattle.std.proofs.lemmas.List.{map-append, take_more}
 use Rattle.world_laws.proofs.Filters.{each_kept}
+pub use Rattle.world_laws.proofs.ListItems.{any_map}
 use Rattle.world_laws.proofs.Members.{both_true}
 use Rattle.world_laws.proofs.Present.{some_passes}
+pub use Rattle.world_laws.proofs.SortedKeys.{distinct_filter}
 
 -- tests that agree on the items of a list find the same
 pub any_each : {X : Type 0} (p q : X → Bool) (xs : List X) → AllByRecursion (λ x. p x ≡ q x) xs → list_any p xs ≡ list_any q xs
 any_each p q [] h = refl
 any_each p q (x ∷ xs) h = rw (h.0, any_each p q xs h.1) refl
-
-pub any_map : {X Y : Type 0} (p : Y → Bool) (f : X → Y) (xs : List X) → list_any p (map f xs) ≡ list_any (λ x. p (f x)) xs
-any_map p f [] = refl
-any_map p f (x ∷ xs) = ap (λ t. p (f x) || t) (any_map p f xs)
 
 pub any_either : {X : Type 0} (p q : X → Bool) (xs : List X) → list_any (λ x. p x || q x) xs ≡ (list_any p xs || list_any q xs)
 any_either p q [] = refl
@@ -26,11 +24,6 @@ any_either p q (x ∷ xs) = ap (λ t. (p x || q x) || t) (any_either p q xs) ∙
     regrouped false true true d = refl
     regrouped false true false d = refl
     regrouped false false c d = refl
-
--- what follows from each item that passes a test follows where some item passes
-pub any_one : {X : Type 0} (p : X → Bool) (C : Type 0) (xs : List X) → AllByRecursion (λ x. p x ≡ true → C) xs → list_any p xs ≡ true → C
-any_one p C [] k h = absurd (true≢false (sym h))
-any_one p C (x ∷ xs) k h = elim (or_cases (p x) (list_any p xs) h) [ inl e ↦ k.0 e | inr e ↦ any_one p C xs k.1 e ]
 
 -- lists with the same items pass the same tests
 pub any_of_same : {X : Type 0} (same : X → X → Bool) → ((x : X) → same x x ≡ true) → ((x y : X) → same x y ≡ true → x ≡ y) → (xs ys : List X)
@@ -52,14 +45,6 @@ some_place p (x ∷ xs) d h = elim (or_cases (p x) (list_any p xs) h) [
 ]
 
 -- ---- distinct items
-
-pub distinct_filter : {X : Type 0} (same : X → X → Bool) (p : X → Bool) (xs : List X) → IsDistinct same xs → IsDistinct same (filter p xs)
-distinct_filter same p [] h = h
-distinct_filter same p (x ∷ xs) h =
-    let more = distinct_filter same p xs (IsDistinct-tail same x xs h) in
-    cond_both (p x) (x ∷ filter p xs) (filter p xs) (IsDistinct same)
-    (λ e. IsDistinct-cons same x (filter p xs) (each_kept (λ y. same x y ≡ false) p xs (IsDistinct-head same x xs h)) more)
-    (λ e. more)
 
 -- images are distinct where different items have different images
 pub distinct_map : {X Y : Type 0} (same : X → X → Bool) (alike : Y → Y → Bool) (f : X → Y) (P : X → Type 0) → ((x y : X) → P x → P y → alike (f x) (f y) ≡ true → same x y ≡ true) → (xs : List X)

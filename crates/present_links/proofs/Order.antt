@@ -18,7 +18,7 @@ use Rattle.graph_store.specs.Contents.{name_at}
 use Rattle.graph_store.proofs.LinkLaws.{same_ends-equal}
 use Rattle.present_links.specs.declared.link_list.Link.{Link}
 use Rattle.present_links.specs.Links.{HasLinks, ends_cmp, ends_in, link_ends}
-use Rattle.present_links.proofs.Settled.{map_rising, settled}
+use Rattle.view_trait.proofs.Settled.{map_rising, settled}
 
 -- ---- the order
 

@@ -19,6 +19,7 @@ use Rattle.graph_model.specs.Rising.{Rises}
 use Rattle.graph_model.specs.World.{World}
 use Rattle.graph_model.specs.Presence.{node_present}
 use Rattle.world_laws.proofs.Filters.{any_weaker, each_weaker}
+use Rattle.world_laws.proofs.ListItems.{any_map, any_one}
 use Rattle.world_laws.proofs.Members.{any_filter, both_true}
 use Rattle.world_laws.proofs.Order.{same_name-exact}
 use Rattle.world_laws.proofs.Present.{some_passes}
@@ -34,9 +35,9 @@ use Rattle.present_links.specs.Links.{IsNamed, has_own, is_end, is_present_numbe
 use Rattle.present_links.proofs.Base.{present_by_links}
 use Rattle.present_links.proofs.Keyed.{any_counted}
 use Rattle.present_links.proofs.Neighbours.{same_number}
-use Rattle.present_links.proofs.Numbers.{any_map, any_one, distinct_map, some_place}
+use Rattle.present_links.proofs.Numbers.{distinct_map, some_place}
 use Rattle.present_links.proofs.Order.{distinct_rises}
-use Rattle.present_links.proofs.Settled.{settled}
+use Rattle.view_trait.proofs.Settled.{settled}
 use Rattle.present_links.proofs.Views.{present_known, view_links_rising}
 
 -- a number is among those on a roster with an event of their own where it has one

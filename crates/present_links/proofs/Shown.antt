@@ -10,6 +10,7 @@ use Rattle.world_laws.proofs.Filters.{any_weaker, each_kept}
 use Rattle.world_laws.proofs.Order.{same_edge-exact, same_edge-refl}
 use Rattle.world_laws.proofs.Members.{any_filter, both_true, edges_has}
 use Rattle.world_laws.proofs.Present.{some_passes}
+use Rattle.world_laws.proofs.SortedKeys.{distinct_filter}
 use Rattle.graph_store.specs.declared.pairs.Ends.{Ends}
 use Rattle.graph_store.specs.declared.edges.EdgeParts.{EdgeParts}
 use Rattle.graph_store.specs.Ends.{same_ends}
@@ -17,11 +18,10 @@ use Rattle.graph_store.specs.EdgeParts.{ends_of, parts_at}
 use Rattle.graph_store.specs.Places.{places_from}
 use Rattle.graph_store.specs.Contents.{Contents, edge_name, name_at}
 use Rattle.graph_store.specs.Indexed.{IsIndexed}
-use Rattle.graph_store.proofs.EdgeNames.{each_from}
+use Rattle.world_laws.proofs.ListItems.{each_from}
 use Rattle.graph_store.proofs.LinkLaws.{same_ends-equal, same_ends-own}
 use Rattle.graph_store.proofs.Listed.{list_any-place}
 use Rattle.present_links.specs.Links.{HasLinks, ShowsEdges, has_shown, shown_links}
-use Rattle.present_links.proofs.Numbers.{distinct_filter}
 
 module _ {X : Type 0} (test : X → Bool) (shown : ℕ → Bool) (d : X) where
   -- a place of an item that passes, where the first place has a number

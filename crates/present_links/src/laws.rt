@@ -1,15 +1,18 @@
 //! Laws of links. The functions do nothing: their contracts are the laws.
-ghost use Rattle.std.specs.Prelude.{◌≡◌, ◌<◌, ◌+◌, ◌++◌, ℕ, Bool, List, length};
+ghost use Rattle.std.specs.Prelude.{◌≡◌, ◌≢◌, ◌<◌, ◌+◌, ◌++◌, ℕ, Bool, List, length};
 ghost use Rattle.graph_model.specs.Names.{name_cmp};
-ghost use Rattle.graph_model.specs.Neighbours.{neighbours};
+ghost use Rattle.graph_model.specs.Neighbours.{leads, neighbours};
 ghost use Rattle.graph_model.specs.Rising.{rising};
 ghost use Rattle.graph_model.specs.World.{IsLawful, World};
 ghost use Rattle.graph_model.specs.declared.events.Model.TheVariants.{Event as Instants};
+ghost use Rattle.graph_model.specs.declared.queries.Direction.{Direction};
 ghost use Rattle.graph_model.specs.declared.queries.Direction.TheVariants.{Both, Inward, Outward};
 ghost use Rattle.graph_store.specs.Contents.{Contents, base_of, name_at};
 ghost use Rattle.graph_store.specs.Indexed.{IsIndexed};
 ghost use Rattle.graph_store.specs.declared.pairs.Ends.{Ends};
 ghost use Rattle.view_trait.specs.Meaning.{IsShown};
+ghost use Rattle.view_trait.specs.Numbered.{is_listed};
+ghost use Rattle.present_links.specs.Adjacent.{AdjacentNodes, AreAdjacent, number_at, row_at};
 ghost use Rattle.present_links.specs.Links.{HasLinks, ShowsEdges, links_of, rising_links, shown_links};
 ghost use Rattle.present_links.specs.Links.{links_from, links_to, links_to_alone, names_linked_from, names_linked_to};
 
@@ -59,4 +62,13 @@ pub fn links_count_neighbours()
         → HasLinks w nodes links → (n : ℕ) → n < length nodes
         → length (neighbours w Both (name_at nodes n)) ≡
         length (links_from links n) + length (links_to_alone links n) }
+{}
+
+/// Another node is a neighbour of a node, in a direction, where its place stands in the node's row.
+pub fn rows_have_neighbours()
+    ensures { (c : Contents) (w : World) → IsShown c w → (d : Direction) (a : AdjacentNodes)
+        → AreAdjacent (rising_links c w) d a
+        → (v u : ℕ) → v < length a.nodes → u < length a.nodes → v ≢ u
+        → is_listed (row_at a.rows v) u
+        ≡ leads w d (name_at c.nodes (number_at a.nodes v)) (name_at c.nodes (number_at a.nodes u)) }
 {}

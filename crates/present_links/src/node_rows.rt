@@ -34,6 +34,13 @@ impl Model for NodeRows {
 }
 
 impl NodeRows {
+    /// The nodes with these numbers, which rise by the bytes of their names. It takes no memory.
+    pub fn from_vec(nodes: Vec<u32>) -> NodeRows
+        ensures { result ≡ nodes.items }
+    {
+        NodeRows { nodes }
+    }
+
     /// How many nodes there are.
     pub fn len(&self) -> usize
         ensures { result ≡ length self.now }
@@ -51,7 +58,7 @@ impl NodeRows {
 }
 
 /// The numbers of the nodes where a link begins or ends.
-fn link_nodes(alloc: Global, links: &Links) -> Result<Vec<u32>, Memory>
+pub fn link_nodes(alloc: Global, links: &Links) -> Result<Vec<u32>, Memory>
     ensures { IfOk result (λ numbers. (n : ℕ) → is_listed numbers.items n ≡ is_end links.now n) }
 {
     let mut numbers = Vec::new(alloc);
@@ -147,7 +154,7 @@ fn rows_of(alloc: Global, named: &[NamedNode<'_>]) -> Result<NodeRows, Memory>
     for x in named {
         nodes.push(x.node)?;
     }
-    Ok(NodeRows { nodes })
+    Ok(NodeRows::from_vec(nodes))
 }
 
 /// The present nodes, rising by the bytes of their names. The links are those that the view shows, and

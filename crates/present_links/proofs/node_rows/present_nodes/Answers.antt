@@ -6,7 +6,7 @@ use Rattle.std.proofs.lemmas.List.MinMax.{ranks_by}
 use Rattle.std.proofs.lemmas.List.Sorted.{All-permutation}
 use Rattle.std.proofs.lemmas.Result.{IfOk-weaker}
 use Rattle.graph_model.specs.Names.{name_cmp, name_total, same_name}
-use Rattle.time_history.proofs.Held.{each_at}
+use Rattle.world_laws.proofs.ListItems.{each_at}
 use Rattle.graph_store.specs.Contents.{name_at}
 use Rattle.present_links.specs.Links.{IsNamed}
 use Rattle.present_links.proofs.Present.{named_names, named_within, names_once, names_present}

@@ -2,7 +2,7 @@ use Rattle.std.proofs.Common.{◌≡◌, ◌<◌, ◌≤◌, ◌++◌, ◌∙◌
 use Rattle.std.specs.List.{filter}
 use Rattle.std.specs.Prelude.{slice_get, Some}
 use Rattle.std.proofs.lemmas.List.{take_all}
-use Rattle.time_history.proofs.Held.{each_at}
+use Rattle.world_laws.proofs.ListItems.{each_at}
 use Rattle.view_trait.specs.Coverage.{node_count_on, nodes_on}
 use Rattle.view_trait.specs.Numbered.{is_listed}
 use Rattle.view_trait.proofs.Covered.{length-nodes_on}
