@@ -1,4 +1,7 @@
+pub mod Counted
 pub mod Listing
 pub mod Paired
-pub mod Counted
 pub mod Rows
+pub mod Visits
+pub mod Walked
+pub mod JoinedPlaces

@@ -62,6 +62,13 @@ impl DegreeRows {
     {
         &self.rows[i]
     }
+
+    /// The degrees, side by side.
+    pub fn as_slice(&self) -> &[Degree]
+        ensures { result.now ≡ self.now }
+    {
+        self.rows.as_slice()
+    }
 }
 
 /// The degrees of a node, by its ways.

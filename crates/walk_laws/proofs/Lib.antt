@@ -1,0 +1,9 @@
+pub mod Places
+pub mod Rows
+pub mod Turned
+pub mod Steps
+pub mod Reached
+pub mod HopFacts
+pub mod Components
+pub mod LabelFacts
+pub mod Joined

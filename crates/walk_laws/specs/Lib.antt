@@ -1,0 +1,5 @@
+pub mod Numbers
+pub mod Steps
+pub mod Distances
+pub mod Components
+pub mod Labels
