@@ -1,0 +1,12 @@
+pub mod Journeys
+pub mod Offered
+pub mod Offering
+pub mod EdgePlaces
+pub mod Inside
+pub mod TablePlaces
+pub mod SeedSettled
+pub mod NodeSettled
+pub mod Closed
+pub mod Arriving
+pub mod ArrivalRows
+pub mod Numbering

@@ -1,0 +1,4 @@
+pub mod Reaching
+pub mod Offers
+pub mod Search
+pub mod Arrivals
