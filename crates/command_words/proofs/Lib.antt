@@ -1,0 +1,3 @@
+pub mod CommandWords
+pub mod CommandLaw
+pub mod Draws
