@@ -1,17 +1,17 @@
--- The present edges of a world, listed by their numbers and then sorted.
-use Rattle.std.proofs.Common.{◌≡◌, ℕ, zero, suc, ◌+◌, ◌<◌, Bool, true, false, ◌&&◌, List, [], ◌∷◌, ◌++◌, length, map, take, get_or, refl, sym, ◌∙◌, ap, subst, arith}
-use Rattle.std.specs.Prelude.{◌==◌, IsPermutation, IsSortedBy, slice_get, Some}
+-- The present edges of a world: their numbers, and their names sorted.
+use Rattle.std.proofs.Common.{◌≡◌, ℕ, ◌+◌, ◌<◌, Bool, true, false, ◌&&◌, ◌||◌, List, [], ◌∷◌, ◌++◌, cond, length, map, take, get_or, refl, sym, ◌∙◌, ap, subst, arith, inl, inr}
+use Rattle.std.specs.Prelude.{◌==◌, nat_lt, slice_get, Some, if◌then◌else◌}
 use Rattle.std.specs.List.{filter, list_any, IsDistinct, AllByRecursion}
+use Rattle.std.specs.List.Sorted.{IsPermutation, IsSortedBy}
 use Rattle.std.specs.declared.cmp.Ordering.{Ordering}
 use Rattle.std.specs.declared.cmp.Ordering.TheVariants.{Less, Equal, Greater}
-use Rattle.std.specs.Ordering.{is_eq, is_lt, is_ne, ordering_reverse, ordering_then}
-use Rattle.std.proofs.lemmas.Bool.{and_from}
+use Rattle.std.specs.Cmp.{unsigned_tied}
+use Rattle.std.specs.Ordering.{is_lt, is_ne, nat_cmp, ordering_then}
+use Rattle.std.proofs.lemmas.Bool.{and_from, and_parts, cases_Bool, eq-eqb, eqb-true, lt-ltb, ltb-true, true≢false}
 use Rattle.std.proofs.lemmas.Bool.Decides.{nat_tests}
-use Rattle.std.proofs.lemmas.List.{get_or-map, length-map, map-append, take_more}
-use Rattle.std.proofs.lemmas.List.Elements.{filter-append}
-use Rattle.std.proofs.lemmas.List.MinMax.{ranks_by}
-use Rattle.std.proofs.lemmas.List.Sorted.{sorted_far, list_any-IsPermutation}
-use Rattle.std.proofs.lemmas.Map.Keys.{IsDistinct-from_apart, IsDistinct-IsPermutation, apart_from_distinct}
+use Rattle.std.proofs.lemmas.List.{get_or-map, length-map}
+use Rattle.std.proofs.lemmas.List.Elements.{filter_more}
+use Rattle.std.proofs.lemmas.List.Sorted.{IsPermutation-map, list_any-IsPermutation}
 use Rattle.std.proofs.lemmas.Option.{get_or_from_slice_get}
 use Rattle.graph_model.specs.declared.events.EdgeName.{EdgeName}
 use Rattle.graph_model.specs.Entity.{edge_cmp, same_edge}
@@ -19,19 +19,28 @@ use Rattle.graph_model.specs.Names.{same_name}
 use Rattle.graph_model.specs.Presence.{edge_present, edges}
 use Rattle.graph_model.specs.Rising.{Rises}
 use Rattle.graph_model.specs.World.{World}
-use Rattle.world_laws.proofs.Members.{and_when, edges_has, edges_rise}
+use Rattle.world_laws.proofs.Filters.{any_weaker}
+use Rattle.world_laws.proofs.Members.{any_filter, both_true, edges_has, edges_rise}
 use Rattle.world_laws.proofs.Order.{edge_exact, edge_total, same_edge-exact, same_edge-refl, same_name-refl}
+use Rattle.world_laws.proofs.Present.{some_passes}
 use Rattle.world_laws.proofs.RisingFixed.{rising_fixed}
+use Rattle.world_laws.proofs.SortedKeys.{sorted_keys_rise}
 use Rattle.graph_store.specs.declared.edges.EdgeParts.{EdgeParts}
 use Rattle.graph_store.specs.Contents.{Contents, edge_name, name_at}
 use Rattle.graph_store.specs.Indexed.{IsIndexed}
 use Rattle.graph_store.specs.EdgeParts.{parts_at, same_parts}
-use Rattle.graph_store.proofs.EdgeNames.{each_from}
-use Rattle.graph_store.proofs.Listed.{one_place, list_any-place}
+use Rattle.world_laws.proofs.ListItems.{each_from}
+use Rattle.graph_store.proofs.Listed.{one_place}
+use Rattle.view_trait.specs.Coverage.{Covers, edges_on}
 use Rattle.view_trait.specs.Meaning.{IsShown, edge_named}
+use Rattle.view_trait.specs.Numbered.{is_listed}
+use Rattle.view_trait.specs.declared.rosters.Roster.{Roster}
+use Rattle.view_trait.proofs.Covered.{missing_edge}
 use Rattle.view_trait.proofs.Pairs.{present_number, same_number}
-use Rattle.present_links.proofs.Keyed.{any_same_kept}
-use Rattle.present_links.proofs.Numbers.{any_map, distinct_filter, distinct_map}
+use Rattle.present_links.specs.Links.{edge_shown, has_edge}
+use Rattle.world_laws.proofs.ListItems.{any_map}
+use Rattle.present_links.proofs.Numbers.{distinct_map}
+use Rattle.present_links.proofs.Order.{distinct_rises}
 use Rattle.view_answers.specs.Edges.{edge_names}
 
 -- ---- the names of all edges
@@ -56,95 +65,109 @@ edge_names_differ c h = distinct_map same_parts same_edge (edge_name c.nodes c.l
 pub named_at : (c : Contents) (e : ℕ) (d : EdgeName) → e < length c.edges → get_or (edge_names c) e d ≡ edge_named c e
 named_at c e d lt = get_or-map (edge_name c.nodes c.layers) c.edges e (record { src = 0; dst = 0; layer = 0 }) d lt
 
-present_listed : (c : Contents) (w : World) → IsShown c w → (edge : EdgeName) → edge_present w edge ≡ true → list_any (same_edge edge) (edge_names c) ≡ true
-present_listed c w h edge k =
-    let r = present_number c w edge h k in
+-- edges with one name have one number
+named_once : (c : Contents) → IsIndexed c → (i j : ℕ) → i < length c.edges → j < length c.edges → same_edge (edge_named c i) (edge_named c j) ≡ true → (i == j) ≡ true
+named_once c h i j below_i below_j e =
     let n = length-map c.edges (edge_name c.nodes c.layers) in
-    list_any-place (same_edge edge) (edge_names c) r.0 edge (let lt = r.1 in omega (arith, n)) (ap (same_edge edge) (named_at c r.0 edge r.1 ∙ r.2) ∙ same_edge-refl edge)
+    let d = edge_named c i in
+    let same : edge_named c i ≡ edge_named c j = same_edge-exact (edge_named c i) (edge_named c j) e in
+    eq-eqb i j (one_place same_edge same_edge-refl (edge_names c) i j d (edge_names_differ c h) (omega (arith, below_i, n)) (omega (arith, below_j, n)) (named_at c i d below_i ∙ (same ∙ sym (named_at c j d below_j))))
 
--- one item more of a list that passes a test, or does not
-filter_more : {X : Type 0} (p : X → Bool) (xs : List X) (i : ℕ) (d : X) → i < length xs → filter p (take (i + 1) xs) ≡ filter p (take i xs) ++ filter p (get_or xs i d ∷ [])
-filter_more p xs i d below = ap (filter p) (take_more xs i d below) ∙ filter-append p (take i xs) (get_or xs i d ∷ [])
-
--- the present ones of the first edges, with one more
-pub listed_more : (c : Contents) (w : World) (e : ℕ) (old new : List EdgeName) → e < length c.edges → old ≡ filter (edge_present w) (take e (edge_names c))
-    → new ≡ old ++ filter (edge_present w) (edge_named c e ∷ []) → new ≡ filter (edge_present w) (take (e + 1) (edge_names c))
-listed_more c w e old new lt before is =
-    let n = length-map c.edges (edge_name c.nodes c.layers) in
-    let d = edge_named c e in
-    is
-    ∙ (ap (λ xs. xs ++ filter (edge_present w) (d ∷ [])) before
-    ∙ (ap (λ x. filter (edge_present w) (take e (edge_names c)) ++ filter (edge_present w) (x ∷ [])) (sym (named_at c e d lt))
-    ∙ sym (filter_more (edge_present w) (edge_names c) e d (omega (arith, n)))))
-
--- one edge more that is present
-pub edge_pushed : {X : Type 0} (key : X → EdgeName) (w : World) (xs ys : List X) (x : X) (edge : EdgeName) → ys ≡ xs ++ x ∷ [] → key x ≡ edge → edge_present w edge ≡ true → map key ys ≡ map key xs ++ filter (edge_present w) (edge ∷ [])
-edge_pushed key w xs ys x edge more same passes =
-    ap (map key) more ∙ (map-append key xs (x ∷ []) ∙ ap (λ zs. map key xs ++ zs) (ap (λ z. z ∷ []) same ∙ rw passes refl))
-
--- and one that is not
-pub edge_passed : {X : Type 0} (key : X → EdgeName) (w : World) (xs : List X) (edge : EdgeName) → edge_present w edge ≡ false → map key xs ≡ map key xs ++ filter (edge_present w) (edge ∷ [])
-edge_passed key w xs edge fails = rw fails (none (map key xs))
+-- what holds of each number that is listed holds of all
+listed_each : (P : ℕ → Type 0) (ns : List ℕ) → ((n : ℕ) → is_listed ns n ≡ true → P n) → AllByRecursion P ns
+listed_each P [] k = tt
+listed_each P (m ∷ ns) k = (
+  k m (ap (λ t. t || is_listed ns m) (eq-eqb m m refl)),
+  listed_each P ns (λ n on. k n (ap (λ t. (m == n) || t) on ∙ always (m == n))),
+)
   where
-    none : (zs : List EdgeName) → zs ≡ zs ++ []
-    none [] = refl
-    none (z ∷ zs) = ap (λ r. z ∷ r) (none zs)
+    always : (t : Bool) → (t || true) ≡ true
+    always true = refl
+    always false = refl
 
--- ---- sorted edges
+-- ---- the numbers of the present edges
 
-eq_reversed : (o : Ordering) → is_eq (ordering_reverse o) ≡ is_eq o
-eq_reversed Less = refl
-eq_reversed Equal = refl
-eq_reversed Greater = refl
+-- a number is among the present ones on a roster where the world shows its edge
+module _ (c : Contents) (w : World) (r : Roster) (covers : Covers c w r) (e : ℕ) where
+  on : List ℕ
+  on = edges_on c r
 
-less_from : (o p : Ordering) → p ≡ ordering_reverse o → is_eq o ≡ false → is_lt p ≡ false → o ≡ Less
-less_from Less p e apart up = refl
-less_from Equal p e apart up = cc
-less_from Greater p e apart up = cc (rw e at up)
+  to_edge : is_listed (filter (has_edge c w) on) e ≡ true → has_edge c w e ≡ true
+  to_edge some =
+      let m = some_passes (λ m. has_edge c w m && (m == e)) on (sym (any_filter (has_edge c w) (λ m. m == e) on) ∙ some) in
+      let both = and_parts (has_edge c w m.0) (m.0 == e) m.1 in
+      subst (λ k. has_edge c w k ≡ true) (eqb-true m.0 e both.1) both.0
 
-rises_from : (xs : List EdgeName) → ((i j : ℕ) (d : EdgeName) → i < j → j < length xs → edge_cmp (get_or xs i d) (get_or xs j d) ≡ Less) → Rises edge_cmp xs
-rises_from [] h = tt
-rises_from (x ∷ xs) h = (each_from (λ y. edge_cmp x y ≡ Less) xs x (λ j below. h zero (suc j) x (omega arith) (omega arith)), rises_from xs (λ i j d less below. h (suc i) (suc j) d (omega arith) (omega arith)))
+  from_edge : has_edge c w e ≡ true → is_listed (filter (has_edge c w) on) e ≡ true
+  unfolding on
+  from_edge has =
+      let both = and_parts (nat_lt e (length c.edges)) (edge_shown c w e) has in
+      elim (cases_Bool (is_listed (edges_on c r) e)) [
+        | inl here ↦
+            any_filter (has_edge c w) (λ m. m == e) (edges_on c r)
+            ∙ any_weaker (λ m. m == e) (λ m. has_edge c w m && (m == e))
+            (λ m k. and_from (has_edge c w m) (m == e) (subst (λ j. has_edge c w j ≡ true) (sym (eqb-true m e k)) has) k) (edges_on c r) here
+        | inr off ↦ absurd (true≢false (sym both.1 ∙ missing_edge c w r covers e (ltb-true e (length c.edges) both.0) off))
+      ]
 
-module _ {X : Type 0} (key : X → EdgeName) where
-  -- items whose keys differ
-  keys_apart : (xs : List X) → IsDistinct same_edge (map key xs) → IsDistinct (λ x y. same_edge (key x) (key y)) xs
-  keys_apart xs h = IsDistinct-from_apart (λ x y. same_edge (key x) (key y)) xs (λ i j d less below.
-      let n = length-map xs key in
-      let k : j < length (map key xs) = omega (arith, n) in
-      let first = get_or-map key xs i d (key d) (omega arith) in
-      let second = get_or-map key xs j d (key d) below in
-      sym (λ t. same_edge (first t) (second t)) ∙ apart_from_distinct same_edge (map key xs) i j (key d) h less k)
+  pub listed_edge : is_listed (filter (has_edge c w) (edges_on c r)) e ≡ has_edge c w e
+  unfolding on
+  listed_edge = both_true (is_listed (filter (has_edge c w) (edges_on c r)) e) (has_edge c w e) to_edge from_edge
 
-  keys_rise : (xs : List X) → IsDistinct (λ x y. same_edge (key x) (key y)) xs → IsSortedBy (λ x y. is_lt (edge_cmp (key x) (key y))) xs → (i j : ℕ) (d : X) → i < j → j < length xs → edge_cmp (key (get_or xs i d)) (key (get_or xs j d)) ≡ Less
-  keys_rise xs once sorted i j d less below =
-      less_from (edge_cmp (key (get_or xs i d)) (key (get_or xs j d))) (edge_cmp (key (get_or xs j d)) (key (get_or xs i d))) (edge_total.antisymm (key (get_or xs j d)) (key (get_or xs i d)))
-      (apart_from_distinct (λ x y. same_edge (key x) (key y)) xs i j d once less below)
-      (sorted_far (λ x y. is_lt (edge_cmp (key x) (key y))) (ranks_by edge_total key) xs sorted i j d (omega arith) below)
+-- those that pass among one number more
+pub present_more : (p : ℕ → Bool) (es : List ℕ) (i e : ℕ) → i < length es → slice_get es i ≡ Some e → (before after : List ℕ) → before ≡ filter p (take i es)
+    → after ≡ before ++ (if p e then e ∷ [] else []) → after ≡ filter p (take (i + 1) es)
+present_more p es i e below here before after is more =
+    more
+    ∙ (ap (λ xs. xs ++ cond (p e) (e ∷ []) []) is
+    ∙ (ap (λ x. filter p (take i es) ++ cond (p x) (x ∷ []) []) (sym (get_or_from_slice_get es i e 0 here))
+    ∙ sym (filter_more p es i 0 below)))
 
-  rises_keys : (xs : List X) → ((i j : ℕ) (d : X) → i < j → j < length xs → edge_cmp (key (get_or xs i d)) (key (get_or xs j d)) ≡ Less) → Rises edge_cmp (map key xs)
-  rises_keys [] h = tt
-  rises_keys (x ∷ xs) h = (each xs (λ j below. h zero (suc j) x (omega arith) (omega arith)), rises_keys xs (λ i j d less below. h (suc i) (suc j) d (omega arith) (omega arith)))
+-- ---- their names
+
+module _ (c : Contents) (w : World) (h : IsShown c w) (numbers : List ℕ) (rise : Rises nat_cmp numbers) (is : (e : ℕ) → is_listed numbers e ≡ has_edge c w e) where
+  -- a listed number is that of a present edge
+  of_listed : (e : ℕ) → is_listed numbers e ≡ true → (e < length c.edges) × (edge_present w (edge_named c e) ≡ true)
+  of_listed e on =
+      let both = and_parts (nat_lt e (length c.edges)) (edge_shown c w e) (sym (is e) ∙ on) in
+      (ltb-true e (length c.edges) both.0, both.1)
+
+  pub edges_within : AllByRecursion (λ e. e < length c.edges) numbers
+  edges_within = listed_each (λ e. e < length c.edges) numbers (λ e on. (of_listed e on).0)
+
+  -- their names are distinct
+  pub names_once : IsDistinct same_edge (map (edge_named c) numbers)
+  names_once =
+      distinct_map (λ (i j : ℕ). i == j) same_edge (edge_named c) (λ e. e < length c.edges)
+      (named_once c h.indexed)
+      numbers edges_within (distinct_rises nat_cmp (λ (i j : ℕ). i == j) (λ i j. sym (unsigned_tied i j)) numbers rise)
+
+  -- and those of the present edges
+  pub names_present : (b : EdgeName) → list_any (same_edge b) (map (edge_named c) numbers) ≡ edge_present w b
+  names_present b = any_map (same_edge b) (edge_named c) numbers ∙ both_true (list_any (λ e. same_edge b (edge_named c e)) numbers) (edge_present w b) there back
     where
-      each : (ys : List X) → ((j : ℕ) → j < length ys → edge_cmp (key x) (key (get_or ys j x)) ≡ Less) → AllByRecursion (λ y. edge_cmp (key x) y ≡ Less) (map key ys)
-      each [] k = tt
-      each (y ∷ ys) k = (k zero (omega arith), each ys (λ j below. k (suc j) (omega arith)))
+      there : list_any (λ e. same_edge b (edge_named c e)) numbers ≡ true → edge_present w b ≡ true
+      there some =
+          let e = some_passes (λ e. same_edge b (edge_named c e)) numbers some in
+          let present = (of_listed e.0 (e.2 (λ m. m == e.0) (eq-eqb e.0 e.0 refl))).1 in
+          subst (λ z. edge_present w z ≡ true) (sym (same_edge-exact b (edge_named c e.0) e.1)) present
 
-  -- the keys of a sorted permutation of the present ones of a store's edges
-  pub sorted_is : (c : Contents) (w : World) → IsShown c w → (xs ys : List X) → map key xs ≡ filter (edge_present w) (edge_names c) → IsPermutation xs ys → IsSortedBy (λ x y. is_lt (edge_cmp (key x) (key y))) ys → map key ys ≡ edges w
-  sorted_is c w shown xs ys is moved sorted =
-      let names = edge_names c in
-      let apart : IsDistinct (λ x y. same_edge (key x) (key y)) xs = keys_apart xs (subst (IsDistinct same_edge) (sym is) (distinct_filter same_edge (edge_present w) names (edge_names_differ c shown.indexed))) in
-      let turned = λ (x y : X). sym (ap is_eq (edge_total.antisymm (key y) (key x)) ∙ eq_reversed (edge_cmp (key x) (key y))) in
-      let still : IsDistinct (λ x y. same_edge (key x) (key y)) ys = IsDistinct-IsPermutation (λ x y. same_edge (key x) (key y)) turned xs ys moved apart in
-      rising_fixed edge_cmp edge_total edge_exact (map key ys) (edges w) (rises_keys ys (keys_rise ys still sorted)) (edges_rise w)
-      (λ b. any_map (same_edge b) key ys
-      ∙ (sym (list_any-IsPermutation (λ x. same_edge b (key x)) xs ys moved)
-      ∙ (sym (any_map (same_edge b) key xs)
-      ∙ (ap (list_any (same_edge b)) is
-      ∙ (any_same_kept same_edge same_edge-exact (edge_present w) b names
-      ∙ (and_when (edge_present w b) (list_any (same_edge b) names) (present_listed c w shown b)
-      ∙ sym (edges_has w b)))))))
+      back : edge_present w b ≡ true → list_any (λ e. same_edge b (edge_named c e)) numbers ≡ true
+      back present =
+          let e = present_number c w b h present in
+          let here : edge_present w (edge_named c e.0) ≡ true = subst (λ z. edge_present w z ≡ true) (sym e.2) present in
+          let on : is_listed numbers e.0 ≡ true = is e.0 ∙ and_from (nat_lt e.0 (length c.edges)) (edge_shown c w e.0) (lt-ltb e.0 (length c.edges) e.1) here in
+          any_weaker (λ m. m == e.0) (λ m. same_edge b (edge_named c m)) (λ m k. ap (same_edge b) (ap (edge_named c) (eqb-true m e.0 k) ∙ e.2) ∙ same_edge-refl b) numbers on
+
+  -- items with their names, sorted by them, have the names of the present edges
+  pub sorted_is : {X : Type 0} (key : X → EdgeName) (xs ys : List X) → map key xs ≡ map (edge_named c) numbers → IsPermutation xs ys → IsSortedBy (λ x y. is_lt (edge_cmp (key x) (key y))) ys → map key ys ≡ edges w
+  sorted_is key xs ys named moved sorted =
+      rising_fixed edge_cmp edge_total edge_exact (map key ys) (edges w)
+      (sorted_keys_rise key edge_cmp edge_total xs ys (subst (IsDistinct same_edge) (sym named) names_once) moved sorted) (edges_rise w)
+      (λ b. sym (list_any-IsPermutation (same_edge b) (map key xs) (map key ys) (IsPermutation-map key xs ys moved))
+      ∙ (ap (list_any (same_edge b)) named
+      ∙ (names_present b
+      ∙ sym (edges_has w b))))
 
 -- ---- two edges compared
 

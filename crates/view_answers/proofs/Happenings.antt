@@ -20,7 +20,7 @@ use Rattle.time_history.specs.Asked.{kind_of_event}
 use Rattle.view_lists.specs.declared.moments.Moment.{Moment}
 use Rattle.view_lists.specs.Moments.{moment_of_event}
 use Rattle.view_answers.specs.Moments.{kind_word, moment_rows}
-use Rattle.view_answers.specs.WorldPart.{part_rows}
+use Rattle.answer_parts.specs.WorldPart.{part_rows}
 
 node_word : (name : List ℕ) (what : What) → same_entity (Node name) (subject what) ≡ true → kind_word (kind_of_event what) ≡ codes "node"
 node_word name (Update other props) h = refl

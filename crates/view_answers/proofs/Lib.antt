@@ -1,8 +1,7 @@
 pub mod Asked
 pub mod Unknown
-pub mod Written
+pub mod MomentRows
 pub mod Happenings
 pub mod EdgeList
-pub mod Listing
-pub mod Plainly
+pub mod ExtentRows
 pub mod RecordRows

@@ -14,9 +14,9 @@ use Rattle.view_lists.specs.declared.listing.ShownEntity.{ShownEntity}
 use Rattle.view_lists.specs.declared.types.TypedNode.{TypedNode}
 use Rattle.view_lists.specs.Listing.{event_placed}
 use Rattle.view_lists.specs.Types.{types_listed}
-use Rattle.view_answers.specs.WorldPart.{part_rows}
+use Rattle.answer_parts.specs.WorldPart.{part_rows}
 use Rattle.view_answers.specs.Records.{type_row}
-use Rattle.view_answers.proofs.Written.{part_of}
+use Rattle.answer_parts.proofs.Written.{part_of}
 
 type_rows : (types : List TypedNode) → map type_row types ≡ map (λ (t : List ℕ × List ℕ). TypeRow t.0 t.1) (types_listed types)
 type_rows [] = refl

@@ -1,46 +1,21 @@
 //! Rows of answers, one at a time.
-ghost use Rattle.std.specs.Prelude.{◌≡◌, ◌<◌, ◌++◌, length, OnOk};
+ghost use Rattle.std.specs.Prelude.{◌≡◌, ◌++◌, OnOk};
 ghost use Rattle.csv.specs.Writing.{default_writer, row_text};
-ghost use Rattle.graph_model.specs.Answer.{NodeRow, EdgeRow, MomentRow, AliveRow, ValueRow, row_fields};
-ghost use Rattle.graph_model.specs.Output.{world_row};
+ghost use Rattle.graph_model.specs.Answer.{EdgeRow, MomentRow, AliveRow, ValueRow, row_fields};
 ghost use Rattle.graph_model.specs.Record.{flag_text};
-ghost use Rattle.walk_algorithms.specs.Degrees.{degree_row_of};
 ghost use Rattle.view_answers.specs.Extents.{extent_told};
 ghost use Rattle.view_answers.specs.Moments.{kind_word};
 
 use event_rows::RowWriter;
-use graph_model::{Bounds, Memory, Name, Value};
-use graph_store::Store;
+use graph_model::{Memory, Name, Value};
 use itoa::Buffer;
 use property_values::print_value;
 use std::alloc::Global;
 use time_history::Kind;
 use view_lists::Moment;
 use view_trait::WorldExtent;
-use walk_algorithms::Degree;
-
-const WORLD: &[u8] = b"world";
 
 const NONE: &[u8] = b"none";
-
-/// Adds the row of a world with these bounds, and so many rows of an answer.
-pub fn add_world(out: &mut RowWriter, bounds: Bounds, rows: usize) -> Result<(), Memory>
-    ensures { OnOk result (out.new ≡ out.old ++ row_text default_writer (world_row bounds rows)) }
-{
-    out.add_fields(&[
-        WORLD,
-        Buffer::new().format(bounds.lo()).as_bytes(),
-        Buffer::new().format(bounds.hi()).as_bytes(),
-        Buffer::new().format(rows).as_bytes(),
-    ])
-}
-
-/// Adds the row of a name.
-pub fn add_name(out: &mut RowWriter, name: &Name) -> Result<(), Memory>
-    ensures { OnOk result (out.new ≡ out.old ++ row_text default_writer (row_fields (NodeRow name.now))) }
-{
-    out.add_fields(&[name.as_str().as_bytes()])
-}
 
 /// How an event of a kind is printed.
 fn word_of(kind: Kind) -> &'static [u8]
@@ -95,20 +70,6 @@ pub fn add_edge(out: &mut RowWriter, src: &Name, dst: &Name, layer: &Name) -> Re
         src.as_str().as_bytes(),
         dst.as_str().as_bytes(),
         layer.as_str().as_bytes(),
-    ])
-}
-
-/// Adds the row of a node of a store: its name, and how many neighbours it has inwards, outwards and
-/// both ways.
-pub fn add_degree(out: &mut RowWriter, store: &Store, degree: Degree) -> Result<(), Memory>
-    requires { degree.node.0 < length store.now.nodes }
-    ensures { OnOk result (out.new ≡ out.old ++ row_text default_writer (row_fields (degree_row_of store.now degree))) }
-{
-    out.add_fields(&[
-        store.node_name(degree.node).as_str().as_bytes(),
-        Buffer::new().format(degree.ins).as_bytes(),
-        Buffer::new().format(degree.outs).as_bytes(),
-        Buffer::new().format(degree.both).as_bytes(),
     ])
 }
 

@@ -1,17 +1,23 @@
 //! The present edges of a view.
-ghost use Rattle.std.specs.Prelude.{◌≡◌, ◌<◌, ◌*◌, [], ◌∷◌, ◌++◌, length, map, IfOk, OnOk};
-ghost use Rattle.std.specs.List.{filter};
+ghost use Rattle.std.specs.Prelude.{◌≡◌, ◌<◌, ◌*◌, ℕ, [], ◌∷◌, ◌++◌, length, map, IfOk, OnOk, if◌then◌else◌};
+ghost use Rattle.std.specs.List.{All};
+ghost use Rattle.std.specs.Ordering.{nat_cmp};
 ghost use Rattle.graph_model.specs.declared.events.Model.TheVariants.{Event as Instants};
 ghost use Rattle.graph_model.specs.Answer.{EdgeRow, row_fields};
 ghost use Rattle.graph_model.specs.Entity.{edge_cmp};
 ghost use Rattle.graph_model.specs.Output.{world_row};
-ghost use Rattle.graph_model.specs.Presence.{edge_present as is_edge_present, edges};
+ghost use Rattle.graph_model.specs.Presence.{edges};
+ghost use Rattle.graph_model.specs.Rising.{Rises};
 ghost use Rattle.graph_model.specs.RowText.{rows_text};
+ghost use Rattle.view_trait.specs.Coverage.{Covers, edge_count_on};
 ghost use Rattle.view_trait.specs.Meaning.{StepsWithin, edge_named};
-ghost use Rattle.view_answers.specs.Edges.{edge_names, edge_told};
-ghost use Rattle.view_answers.specs.WorldPart.{part_rows};
+ghost use Rattle.view_trait.specs.Numbered.{is_listed};
+ghost use Rattle.present_links.specs.Links.{has_edge};
+ghost use Rattle.answer_parts.specs.WorldPart.{part_rows};
+ghost use Rattle.view_answers.specs.Edges.{edge_told};
 
-use crate::answer_rows::{add_edge, add_world};
+use crate::answer_rows::add_edge;
+use answer_parts::add_world;
 use event_rows::RowWriter;
 use graph_model::{Bounds, Memory, Name};
 use graph_store::{EdgeId, Store};
@@ -19,7 +25,7 @@ use std::alloc::Global;
 use std::cmp::Ordering;
 use std::sync::ledger::Ledger;
 use time_column::Steps;
-use view_trait::{View, edge_present};
+use view_trait::{Roster, View, edge_present};
 
 /// An edge by the names of its parts, which a store keeps.
 #[derive(Clone, Copy)]
@@ -56,58 +62,96 @@ fn compare_edges(a: &NamedEdge<'_>, b: &NamedEdge<'_>) -> Ordering
     a.layer.cmp(b.layer)
 }
 
-/// Adds an edge, if it is present.
-fn push_present<'v, V: View, L: Ledger>(
-    edges: &mut Vec<NamedEdge<'v>>,
-    view: &'v V,
+/// Adds the number of an edge, if the store has it and the view shows it.
+fn push_present<V: View, L: Ledger>(
+    numbers: &mut Vec<u32>,
+    view: &V,
     e: EdgeId,
     steps: &mut Steps<L>,
 ) -> Result<(), Memory>
-    requires { e.0 < length (V.contents view.now).edges }
-    ensures names { OnOk result (map edge_told edges.new.items ≡ map edge_told edges.old.items ++ filter (is_edge_present (V.world view.now)) (edge_named (V.contents view.now) e.0 ∷ [])) }
-    ensures cost { (V.world view.now).model ≡ Instants → StepsWithin steps.old steps.new (V.searches view.now).edges (length (V.contents view.now).accepted) }
+    ensures numbers { let present = has_edge (V.contents view.now) (V.world view.now) e.0 in
+        let more = if present then e.0 ∷ [] else [] in
+        OnOk result (numbers.new.items ≡ numbers.old.items ++ more) }
+    ensures cost { let among = length (V.contents view.now).accepted in
+        (V.world view.now).model ≡ Instants
+        → StepsWithin steps.old steps.new (V.searches view.now).edges among }
 {
-    if edge_present(view, e, steps) {
-        let edge = named_edge(view.store(), e);
-        edges.push(edge)?;
+    if e.0 >= view.store().edges() {
         return Ok(());
+    }
+    if edge_present(view, e, steps) {
+        numbers.push(e.0)?;
     }
     Ok(())
 }
 
-/// The present edges, in the order of their numbers. Each span is asked once.
-fn listed_edges<'v, V: View, L: Ledger>(
+/// The numbers of the present edges, each once, rising. The span of each edge on the roster is asked
+/// once.
+fn present_edges<V: View, L: Ledger>(
     alloc: Global,
-    view: &'v V,
+    view: &V,
+    roster: Roster<'_>,
     steps: &mut Steps<L>,
-) -> Result<Vec<NamedEdge<'v>>, Memory>
-    ensures names { IfOk result (λ listed. map edge_told listed.items ≡ filter (is_edge_present (V.world view.now)) (edge_names (V.contents view.now))) }
-    ensures cost { (V.world view.now).model ≡ Instants → StepsWithin steps.old steps.new (length (V.contents view.now).edges * (V.searches view.now).edges) (length (V.contents view.now).accepted) }
+) -> Result<Vec<u32>, Memory>
+    requires covers { Covers (V.contents view.now) (V.world view.now) roster }
+    ensures rise { IfOk result (λ numbers. Rises nat_cmp numbers.items) }
+    ensures present { let present = has_edge (V.contents view.now) (V.world view.now) in
+        IfOk result (λ numbers. (e : ℕ) → is_listed numbers.items e ≡ present e) }
+    ensures cost { let among = length (V.contents view.now).accepted in
+        let searches = edge_count_on (V.contents view.now) roster.entry * (V.searches view.now).edges in
+        (V.world view.now).model ≡ Instants → StepsWithin steps.old steps.new searches among }
 {
-    let mut listed = Vec::new(alloc);
-    for number in 0..view.store().edges() {
-        push_present(&mut listed, view, EdgeId(number), steps)?;
+    let store = view.store();
+    let mut numbers = Vec::new(alloc);
+    for i in 0..roster.edge_count_on(store) {
+        push_present(&mut numbers, view, roster.edge(store, i), steps)?;
     }
-    Ok(listed)
+    numbers.sort_unstable();
+    numbers.dedup();
+    Ok(numbers)
+}
+
+/// Edges with the names of their parts, in the order of their numbers.
+fn with_names<'s>(
+    alloc: Global,
+    store: &'s Store,
+    numbers: &[u32],
+) -> Result<Vec<NamedEdge<'s>>, Memory>
+    requires { All (λ e. e < length store.now.edges) numbers.now }
+    ensures { let names = map (edge_named store.now) numbers.now in
+        IfOk result (λ named. map edge_told named.items ≡ names) }
+{
+    let mut named = Vec::with_capacity(alloc, numbers.len())?;
+    for e in numbers {
+        named.push(named_edge(store, EdgeId(*e)))?;
+    }
+    Ok(named)
 }
 
 /// The present edges, rising by the bytes of source, destination and layer.
 fn sorted_edges<'v, V: View, L: Ledger>(
     alloc: Global,
     view: &'v V,
+    roster: Roster<'_>,
     steps: &mut Steps<L>,
 ) -> Result<Vec<NamedEdge<'v>>, Memory>
+    requires covers { Covers (V.contents view.now) (V.world view.now) roster }
     ensures names { IfOk result (λ sorted. map edge_told sorted.items ≡ edges (V.world view.now)) }
-    ensures cost { (V.world view.now).model ≡ Instants → StepsWithin steps.old steps.new (length (V.contents view.now).edges * (V.searches view.now).edges) (length (V.contents view.now).accepted) }
+    ensures cost { let among = length (V.contents view.now).accepted in
+        let searches = edge_count_on (V.contents view.now) roster.entry * (V.searches view.now).edges in
+        (V.world view.now).model ≡ Instants → StepsWithin steps.old steps.new searches among }
 {
-    let mut listed = listed_edges(alloc, view, steps)?;
-    listed.sort_unstable_by(|a, b| compare_edges(a, b));
-    Ok(listed)
+    let numbers = present_edges(alloc, view, roster, steps)?;
+    let mut named = with_names(alloc, view.store(), numbers.as_slice())?;
+    named.sort_unstable_by(|a, b| compare_edges(a, b));
+    Ok(named)
 }
 
 /// Adds the part of a world with these bounds whose answer has a row for each of some edges.
 fn add_listed(out: &mut RowWriter, bounds: Bounds, listed: &[NamedEdge<'_>]) -> Result<(), Memory>
-    ensures { OnOk result (out.new ≡ out.old ++ rows_text (world_row bounds (length listed.now) ∷ map row_fields (map (λ e. EdgeRow (edge_told e)) listed.now))) }
+    ensures { let answer = map (λ e. EdgeRow (edge_told e)) listed.now in
+        OnOk result (out.new ≡ out.old
+        ++ rows_text (world_row bounds (length listed.now) ∷ map row_fields answer)) }
 {
     add_world(out, bounds, listed.len())?;
     for edge in listed {
@@ -116,16 +160,22 @@ fn add_listed(out: &mut RowWriter, bounds: Bounds, listed: &[NamedEdge<'_>]) -> 
     Ok(())
 }
 
-/// Adds the part of the world of a view: its present edges.
+/// Adds the part of the world of a view: its present edges. They are the same for every roster that
+/// covers the view.
 pub fn add_edges<V: View, L: Ledger>(
     alloc: Global,
     out: &mut RowWriter,
     view: &V,
+    roster: Roster<'_>,
     steps: &mut Steps<L>,
 ) -> Result<(), Memory>
-    ensures rows { OnOk result (out.new ≡ out.old ++ rows_text (part_rows (V.world view.now) (map EdgeRow (edges (V.world view.now))))) }
-    ensures cost { (V.world view.now).model ≡ Instants → StepsWithin steps.old steps.new (length (V.contents view.now).edges * (V.searches view.now).edges) (length (V.contents view.now).accepted) }
+    requires covers { Covers (V.contents view.now) (V.world view.now) roster }
+    ensures rows { let w = V.world view.now in
+        OnOk result (out.new ≡ out.old ++ rows_text (part_rows w (map EdgeRow (edges w)))) }
+    ensures cost { let among = length (V.contents view.now).accepted in
+        let searches = edge_count_on (V.contents view.now) roster.entry * (V.searches view.now).edges in
+        (V.world view.now).model ≡ Instants → StepsWithin steps.old steps.new searches among }
 {
-    let sorted = sorted_edges(alloc, view, steps)?;
+    let sorted = sorted_edges(alloc, view, roster, steps)?;
     add_listed(out, view.bounds(), sorted.as_slice())
 }

@@ -6,9 +6,10 @@ ghost use Rattle.graph_model.specs.RowText.{rows_text};
 ghost use Rattle.graph_model.specs.World.{events_of};
 ghost use Rattle.graph_model.specs.declared.events.Entity.TheVariants.{Node, Edge};
 ghost use Rattle.view_answers.specs.Moments.{moment_rows};
-ghost use Rattle.view_answers.specs.WorldPart.{part_rows};
+ghost use Rattle.answer_parts.specs.WorldPart.{part_rows};
 
-use crate::answer_rows::{add_moment, add_world};
+use crate::answer_rows::add_moment;
+use answer_parts::add_world;
 use event_rows::RowWriter;
 use graph_model::{Bounds, EdgeName, Memory, Name};
 use std::alloc::Global;

@@ -6,13 +6,14 @@ ghost use Rattle.csv.specs.Writing.{default_writer, row_text};
 ghost use Rattle.graph_model.specs.Answer.{EventRow, SpanRow, TypeRow, row_fields, world_rows};
 ghost use Rattle.graph_model.specs.Record.{event_fields, prop_text};
 ghost use Rattle.graph_model.specs.RowText.{rows_text};
+ghost use Rattle.view_trait.specs.Coverage.{Covers};
 ghost use Rattle.view_lists.specs.Borrowed.{event_borrowed, props_borrowed};
 ghost use Rattle.view_lists.specs.Listing.{IsShownEntity, IsPlaced, event_placed};
 ghost use Rattle.view_lists.specs.Types.{types_listed};
-ghost use Rattle.view_answers.specs.WorldPart.{part_rows};
+ghost use Rattle.answer_parts.specs.WorldPart.{part_rows};
 ghost use Rattle.view_answers.specs.Records.{type_row};
 
-use crate::answer_rows::add_world;
+use answer_parts::add_world;
 use csv::ByteRecord;
 use event_rows::{
     RowWriter, add_property, set_addition, set_deletion, set_node, set_span, set_type,
@@ -25,7 +26,7 @@ use view_lists::{
     BorrowedEvent, EventPlace, Property, ShownEntity, Subject, TypedNode, borrowed_event,
     list_whole,
 };
-use view_trait::View;
+use view_trait::{Roster, View};
 
 /// Adds the record of bounds.
 fn add_bounds(out: &mut RowWriter, row: &mut ByteRecord, bounds: Bounds) -> Result<(), Memory>
@@ -112,16 +113,20 @@ fn add_records<'s, V: View, L: Ledger>(
 }
 
 /// Adds the part of the world of a view: its bounds, its types, and the records of its events in
-/// canonical order. The span of each node and edge of the store is asked once.
+/// canonical order. They are the same for every roster that covers the view; the span of each node and
+/// edge on it is asked once.
 pub fn add_world_records<V: View, L: Ledger>(
     alloc: Global,
     out: &mut RowWriter,
     view: &V,
+    roster: Roster<'_>,
     steps: &mut Steps<L>,
 ) -> Result<(), Memory>
-    ensures { OnOk result (out.new ≡ out.old ++ rows_text (part_rows (V.world view.now) (world_rows (V.world view.now)))) }
+    requires covers { Covers (V.contents view.now) (V.world view.now) roster }
+    ensures { let w = V.world view.now in
+        OnOk result (out.new ≡ out.old ++ rows_text (part_rows w (world_rows w))) }
 {
-    let whole = list_whole(alloc, view, steps)?;
+    let whole = list_whole(alloc, view, roster, steps)?;
     let (types, places) = (whole.types.as_slice(), whole.listed.events.as_slice());
     let bounds = view.bounds();
     let mut row = ByteRecord::new(alloc);

@@ -10,11 +10,12 @@ ghost use Rattle.graph_model.specs.World.{events_of};
 ghost use Rattle.graph_model.specs.declared.events.Entity.TheVariants.{Node, Edge};
 ghost use Rattle.graph_model.specs.declared.queries.Ask.TheVariants.{NodeValue, EdgeValue, EdgeAlive};
 ghost use Rattle.view_trait.specs.Meaning.{StepsWithin, knows};
-ghost use Rattle.view_answers.specs.WorldPart.{part_rows};
+ghost use Rattle.answer_parts.specs.WorldPart.{part_rows};
 ghost use Rattle.view_answers.specs.Costs.{known_searches};
 
-use crate::answer_rows::{add_alive, add_value, add_world};
+use crate::answer_rows::{add_alive, add_value};
 use crate::point::edge_alive;
+use answer_parts::add_world;
 use event_rows::RowWriter;
 use graph_model::{Bounds, EdgeName, Memory, Name, Value};
 use std::alloc::Global;

@@ -4,7 +4,7 @@ use Rattle.std.proofs.lemmas.Simd.{map-map}
 use Rattle.graph_model.specs.Answer.{EdgeRow}
 use Rattle.graph_model.specs.Presence.{edges}
 use Rattle.view_answers.specs.Edges.{edge_told}
-use Rattle.view_answers.proofs.Written.{part_of}
+use Rattle.answer_parts.proofs.Written.{part_of}
 use Rattle.view_answers.proofs.edges.add_edges.Goals as goal
 
 pub returns-clause-rows : goal.returns-clause-rows

@@ -3,7 +3,8 @@ use Rattle.graph_model.specs.Answer.{MomentRow, row_fields}
 use Rattle.graph_model.specs.RowText.{rows_text}
 use Rattle.graph_model.specs.Output.{world_row}
 use Rattle.view_answers.specs.Moments.{kind_word, moment_rows}
-use Rattle.view_answers.proofs.Written.{moments_end, moments_left, part_written, row_written}
+use Rattle.answer_parts.proofs.Written.{part_written, row_written}
+use Rattle.view_answers.proofs.MomentRows.{moments_end, moments_left}
 use Rattle.view_answers.proofs.histories.add_moments.Goals as goal
 
 pub loop-i-preserved : goal.loop-i-preserved
