@@ -1,3 +1,4 @@
+pub mod Asks
 pub mod Refusing
 pub mod Blocks
 pub mod Cost

@@ -1,65 +1,45 @@
 //! Answers to queries.
-ghost use Rattle.std.specs.Prelude.{◌≡◌, ◌≤◌, ◌+◌, ◌↔◌, true, false, IsTrue, IsErrOf, OnOk, OnErr};
-ghost use Rattle.std.specs.List.{list_all};
-ghost use Rattle.graph_model.specs.Range.{op_in_range, query_in_range};
-ghost use Rattle.graph_model.specs.Stack.{apply};
+ghost use Rattle.std.specs.Prelude.{◌≡◌, ◌≤◌, ◌<◌, ◌+◌, ℕ, length, IfErr, IsTrue, IsErrOf, OnOk, OnErr};
+ghost use Rattle.graph_model.specs.Limits.{most_windows};
+ghost use Rattle.graph_model.specs.Range.{query_in_range};
 ghost use Rattle.graph_store.specs.Contents.{base_of};
-ghost use Rattle.view_answers.specs.WorldPart.{AddsPart};
-ghost use Rattle.view_answers.specs.Plain.{is_plain};
-ghost use Rattle.query_answers.specs.Blocks.{AddsAnswer};
-ghost use Rattle.query_answers.specs.Cost.{is_counted_ask, is_counted_query, query_steps, size_of};
-ghost use Rattle.query_answers.specs.Refusing.{is_answered};
+ghost use Rattle.query_answers.specs.Blocks.{AddsAnswer, AddsBlock};
+ghost use Rattle.query_answers.specs.Cost.{is_counted_query, query_steps, size_of};
+ghost use Rattle.query_answers.specs.Refusing.{AreTooMany, asked_worlds};
 
-use crate::block_rows::{add_query, append_rows};
-use crate::unbuilt::answers;
+use crate::answer_fault::AnswerFault;
+use crate::block_rows::append_rows;
+use crate::view_block::add_block;
 use event_rows::RowWriter;
-use graph_model::{Memory, Query};
+use graph_model::Query;
 use graph_store::Store;
 use stack_view::StackView;
-use std::alloc::{AllocError, Global};
+use std::alloc::Global;
 use std::sync::ledger::Ledger;
 use time_column::Steps;
-use view_answers::add_part;
 use view_trait::ready;
 
-/// Why a query is not answered.
-#[derive(Clone, Copy, Debug, PartialEq, Eq, Drop)]
-pub enum AnswerFault {
-    /// It has a question or windows that are not answered yet.
-    Unbuilt,
-    /// Memory was wanting.
-    Memory,
-}
-
-impl From<AllocError> for AnswerFault {
-    ghost use Rattle.std.specs.Prelude.{◌≡◌};
-    ghost use Rattle.query_answers.specs.declared.query_block.AnswerFault.TheVariants.{Memory};
-
-    ghost from_gives = { λ _ fault. fault ≡ Memory };
-
-    fn from(_: AllocError) -> AnswerFault {
-        AnswerFault::Memory
-    }
-}
-
-// Adds the part of the world that the views of a query leave of all that a store has accepted.
-fn add_seen_part<L: Ledger>(
+// Adds the block of a query about all that a store has accepted, as its views show it.
+fn add_seen_block<L: Ledger>(
     alloc: Global,
     out: &mut RowWriter,
     store: &Store,
     query: &Query,
+    line: u32,
     steps: &mut Steps<L>,
-) -> Result<(), Memory>
-    requires plain { is_plain query.now.ask ≡ true }
-    requires in_range { list_all op_in_range query.now.views ≡ true }
-    ensures part { OnOk result
-        (AddsPart (apply query.now.views (base_of store.now)) query.now.ask out.old out.new) }
-    ensures cost { IsTrue (is_counted_ask store.now.model query.now.ask)
+) -> Result<(), AnswerFault>
+    requires { IsTrue (query_in_range query.now) }
+    ensures block { let worlds = asked_worlds (base_of store.now) query.now in
+        OnOk result (AddsBlock worlds line query.now.ask out.old out.new) }
+    ensures few { OnOk result (length (asked_worlds (base_of store.now) query.now) ≤ most_windows) }
+    ensures fault { let worlds = asked_worlds (base_of store.now) query.now in
+        IfErr result (λ fault. AreTooMany worlds fault) }
+    ensures cost { IsTrue (is_counted_query store.now.model query.now)
         → steps.new ≤ steps.old + query_steps (size_of store.now) query.now }
 {
     let ops = ready(alloc, store, &query.views)?;
     let view = StackView::new(store, &ops);
-    add_part(alloc, out, &view, &query.ask, steps)
+    add_block(alloc, out, &view, query, line, steps)
 }
 
 /// Appends the block of a query: its row, and the part of each world that it asks about. The names that
@@ -67,7 +47,8 @@ fn add_seen_part<L: Ledger>(
 /// some questions: none are read for one about an unknown node or edge.
 ///
 /// # Errors
-/// `Unbuilt` where the query is not answered yet, or `Memory`. After either, `out` is as it was.
+/// `Windows` where it asks about more than 65,536 windows, or `Memory`. After either, `out` is as it
+/// was.
 pub fn answer_query<L: Ledger>(
     alloc: Global,
     store: &Store,
@@ -79,18 +60,16 @@ pub fn answer_query<L: Ledger>(
     requires { IsTrue (query_in_range query.now) }
     ensures block { OnOk result
         (AddsAnswer (base_of store.now) line query.now out.old.items out.new.items) }
-    ensures unbuilt { IsErrOf result AnswerFault.Unbuilt ↔ (is_answered query.now ≡ false) }
+    ensures few { OnOk result (length (asked_worlds (base_of store.now) query.now) ≤ most_windows) }
+    ensures windows { let worlds = asked_worlds (base_of store.now) query.now in
+        (count : ℕ) → IsErrOf result (AnswerFault.Windows count)
+        → (count ≡ length worlds) × (most_windows < count) }
     ensures unchanged { OnErr result (out.new.items ≡ out.old.items) }
-    ensures unread { is_answered query.now ≡ false → steps.new ≡ steps.old }
     ensures cost { IsTrue (is_counted_query store.now.model query.now)
         → steps.new ≤ steps.old + query_steps (size_of store.now) query.now }
 {
-    if !answers(query) {
-        return Err(AnswerFault::Unbuilt);
-    }
     let mut block = RowWriter::new(alloc);
-    add_query(&mut block, line, &query.ask, 1)?;
-    add_seen_part(alloc, &mut block, store, query, steps)?;
+    add_seen_block(alloc, &mut block, store, query, line, steps)?;
     append_rows(out, block)?;
     Ok(())
 }

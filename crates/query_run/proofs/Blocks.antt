@@ -1,5 +1,6 @@
 -- Rows that were written one after another, and the blocks that they are.
-use Rattle.std.proofs.Common.{◌≡◌, ◌∙◌, ◌++◌, ◌∷◌, ◌+◌, ◌<◌, [], ℕ, Bool, true, false, List, length, drop, get_or, map, refl, sym, ap, subst, append_assoc}
+use Rattle.std.proofs.Common.{◌≡◌, ◌∙◌, ◌++◌, ◌∷◌, ◌+◌, ◌<◌, ◌≤◌, [], ℕ, Bool, true, false, List, length, drop, get_or, map, refl, sym, ap, subst, append_assoc, arith}
+use Rattle.std.proofs.lemmas.Bool.Decides.{nat_tests}
 use Rattle.std.proofs.lemmas.List.{append-nil, drop_more}
 use Rattle.std.proofs.lemmas.Simd.{map-map}
 use Rattle.std.proofs.lemmas.Grind.{flat_map-append}
@@ -10,11 +11,12 @@ use Rattle.graph_model.specs.declared.queries.Query.{Query}
 use Rattle.graph_model.specs.World.{World}
 use Rattle.graph_model.specs.RowText.{rows_text}
 use Rattle.graph_model.specs.Refusal.{RecordRefusal}
-use Rattle.graph_model.specs.Script.{QueryRefusal, Unbuilt, is_blank, lines_of}
+use Rattle.graph_model.specs.Limits.{most_windows}
+use Rattle.graph_model.specs.Script.{QueryRefusal, Windows, is_blank, lines_of}
 use Rattle.graph_model.specs.QueryLine.{asked_of, query_of, query_said, unless_refused}
 use Rattle.graph_model.specs.Output.{IsBlockOf, IsQueryBlock, refused_query_row, refused_row}
 use Rattle.query_answers.specs.Blocks.{AddsAnswer}
-use Rattle.query_answers.specs.Refusing.{asked_refusal, is_answered}
+use Rattle.query_answers.specs.Refusing.{are_too_many, asked_refusal, asked_worlds}
 use Rattle.query_run.specs.Blocks.{AddsLine, AddsLines, AddsQuery}
 
 -- the row of an item, and those of the items behind it
@@ -45,21 +47,27 @@ refused-added w number refusal old new is =
     let row = row_text default_writer (refused_query_row number refusal) in
     (refused_query_row number refusal ∷ [], refl, is ∙ ap (λ t. old ++ t) (sym (append-nil row)))
 
--- a query that is refused where it is asked, and one that is not
-pub unanswered-added : (w : World) (number : ℕ) (query : Query) (old middle new : List ℕ) → is_answered query ≡ false → middle ≡ old
-    → new ≡ middle ++ row_text default_writer (refused_query_row number Unbuilt) → AddsQuery w number (asked_of asked_refusal w (Ok query)) old new
-unanswered-added w number query old middle new none same is =
-    let row = row_text default_writer (refused_query_row number Unbuilt) in
-    rw none (refused-added w number Unbuilt old new (is ∙ ap (λ t. t ++ row) same))
+-- a query that is asked of a world is refused for its windows, or answered
+pub asked-windows : (w : World) (query : Query) (count : ℕ) → count ≡ length (asked_worlds w query) → most_windows < count → asked_of asked_refusal w (Ok query) ≡ Err Windows
+asked-windows w query count counted many =
+    let too_many : are_too_many (asked_worlds w query) ≡ true = grind (arith, nat_tests) in
+    rw too_many refl
 
-pub answered-added : (w : World) (number : ℕ) (query : Query) (old new : List ℕ) → is_answered query ≡ true → AddsAnswer w number query old new
+pub asked-answered : (w : World) (query : Query) → length (asked_worlds w query) ≤ most_windows → asked_of asked_refusal w (Ok query) ≡ Ok query
+asked-answered w query few =
+    let not_too_many : are_too_many (asked_worlds w query) ≡ false = grind (arith, nat_tests) in
+    rw not_too_many refl
+
+pub refusal-added : (w : World) (number : ℕ) (query : Query) (refusal : QueryRefusal) (old middle new : List ℕ) → asked_of asked_refusal w (Ok query) ≡ Err refusal → middle ≡ old
+    → new ≡ middle ++ row_text default_writer (refused_query_row number refusal) → AddsQuery w number (asked_of asked_refusal w (Ok query)) old new
+refusal-added w number query refusal old middle new refused same is =
+    let row = row_text default_writer (refused_query_row number refusal) in
+    rw refused (refused-added w number refusal old new (is ∙ ap (λ t. t ++ row) same))
+
+pub answered-added : (w : World) (number : ℕ) (query : Query) (old new : List ℕ) → asked_of asked_refusal w (Ok query) ≡ Ok query → AddsAnswer w number query old new
     → AddsQuery w number (asked_of asked_refusal w (Ok query)) old new
 unfolding AddsAnswer AddsQuery
-answered-added w number query old new some added = rw some added
-
-pub is_not_false : (b : Bool) → (b ≡ false → ⊥) → b ≡ true
-is_not_false true h = refl
-is_not_false false h = absurd (h refl)
+answered-added w number query old new answered added = rw answered added
 
 -- ---- the block of a line
 

@@ -1,17 +1,18 @@
 -- The readings of the lines of a script, one after another.
 use Rattle.std.proofs.Common.{◌≡◌, ◌≤◌, ◌+◌, ◌∷◌, ℕ, Bool, true, false, List, length, refl, arith}
-use Rattle.std.specs.Prelude.{IsTrue, None, Some, Ok, if◌then◌else◌}
+use Rattle.std.specs.Prelude.{IsTrue, Option, None, Some, Ok, if◌then◌else◌}
 use Rattle.std.specs.List.{list_all}
 use Rattle.std.proofs.lemmas.Bool.{and_parts}
 use Rattle.graph_model.specs.declared.events.Model.{Model}
 use Rattle.graph_model.specs.declared.queries.Query.{Query}
 use Rattle.graph_model.specs.QueryLine.{asked_of, query_said, unless_refused}
 use Rattle.graph_model.specs.Reading.{base_world, reading}
-use Rattle.graph_model.specs.Script.{Unbuilt, is_blank, lines_of}
+use Rattle.graph_model.specs.Script.{QueryRefusal, Windows, is_blank, lines_of}
 use Rattle.graph_model.specs.World.{World}
 use Rattle.query_answers.specs.Cost.{GraphSize, is_counted_query, query_steps}
-use Rattle.query_answers.specs.Refusing.{asked_refusal, is_answered}
-use Rattle.query_run.specs.Cost.{counted_steps, is_counted_line, is_counted_said, is_counted_script, line_steps, lines_steps, most_steps, said_steps, size_read}
+use Rattle.query_answers.specs.Refusing.{are_too_many, asked_refusal, asked_worlds}
+use Rattle.query_run.specs.Cost.{counted_steps, is_counted_line, is_counted_said, is_counted_script, line_steps, lines_steps, said_steps, size_read}
+use Rattle.file_reading.specs.Costs.{most_steps}
 
 -- where all lines are counted, the lines that are left are, and the steps so far leave enough for them
 abbrev pub StepsLeft : World → GraphSize → List (List ℕ) → List (List ℕ) → ℕ → ℕ → Type 0
@@ -38,14 +39,16 @@ StepsLeft-cut w size lines left more line old now after is cost before all =
     omega (arith, enough)
 
 -- the readings of a query, answered or not
-pub said_steps-of : (w : World) (size : GraphSize) (query : Query) (old new : ℕ) → (is_answered query ≡ false → new ≡ old)
-    → (IsTrue (is_counted_query w.model query) → new ≤ old + query_steps size query)
+pub said_steps-of : (w : World) (size : GraphSize) (query : Query) (old new : ℕ) → (IsTrue (is_counted_query w.model query) → new ≤ old + query_steps size query)
     → IsTrue (is_counted_said w.model false (asked_of asked_refusal w (Ok query))) → new ≤ old + said_steps size false (asked_of asked_refusal w (Ok query))
-said_steps-of w size query old new unread cost = by (is_answered query) refl
+said_steps-of w size query old new cost = by (are_too_many (asked_worlds w query))
   where
-    by : (b : Bool) → is_answered query ≡ b → IsTrue (is_counted_said w.model false (unless_refused (if b then None else Some Unbuilt) query)) → new ≤ old + said_steps size false (unless_refused (if b then None else Some Unbuilt) query)
-    by true is counted = cost counted
-    by false is counted = let same = unread is in omega (arith, same)
+    refusal_by : Bool → Option QueryRefusal
+    refusal_by many = if many then Some Windows else None
+
+    by : (many : Bool) → IsTrue (is_counted_said w.model false (unless_refused (refusal_by many) query)) → new ≤ old + said_steps size false (unless_refused (refusal_by many) query)
+    by false counted = cost counted
+    by true counted = cc counted
 
 -- those of a line that is not skipped
 pub line_steps-of : (w : World) (size : GraphSize) (line : List ℕ) (query : Query) (old new : ℕ) → is_blank line ≡ false → query_said line ≡ Ok query

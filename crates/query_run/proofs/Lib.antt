@@ -1,10 +1,6 @@
 pub mod Scripts
-pub mod Costs
-pub mod Records
-pub mod CommandWords
 pub mod Blocks
 pub mod OneOutput
-pub mod CommandLaw
 pub mod Outputs
 pub mod Counted
 pub mod Sizes

@@ -12,9 +12,9 @@ use Rattle.graph_model.specs.World.{World, base}
 use Rattle.graph_store.specs.Contents.{base_of}
 use Rattle.query_answers.specs.Refusing.{asked_refusal}
 use Rattle.query_run.specs.Blocks.{AddsLines, IsText}
-use Rattle.query_run.specs.StoreReading.{refused_of, reading_of}
+use Rattle.file_reading.specs.StoreReading.{refused_of, reading_of}
 use Rattle.query_run.specs.declared.file_output.Answer.{Answer}
-use Rattle.query_run.specs.declared.reading.FileReading.{FileReading}
+use Rattle.file_reading.specs.declared.reading.FileReading.{FileReading}
 use Rattle.query_run.proofs.Blocks.{rows_text-whole}
 
 -- the rows of refused records, that of the graph, and the blocks of lines

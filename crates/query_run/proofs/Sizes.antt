@@ -28,8 +28,8 @@ use Rattle.view_answers.specs.Edges.{edge_names}
 use Rattle.view_answers.proofs.EdgeList.{edge_names_differ}
 use Rattle.query_answers.specs.Cost.{size_of}
 use Rattle.query_run.specs.Cost.{edges_in, is_known_from, size_read}
-use Rattle.query_run.specs.StoreReading.{reading_of}
-use Rattle.query_run.specs.declared.reading.FileReading.{FileReading}
+use Rattle.file_reading.specs.StoreReading.{reading_of}
+use Rattle.file_reading.specs.declared.reading.FileReading.{FileReading}
 
 edge_equiv : IsEquivalence same_edge
 edge_equiv = eq_by_cmp_equiv edge_total

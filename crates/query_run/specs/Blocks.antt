@@ -7,8 +7,8 @@ use Rattle.graph_model.specs.Script.{QueryRefusal, lines_of}
 use Rattle.graph_model.specs.World.{World}
 use Rattle.graph_store.specs.Contents.{base_of}
 use Rattle.query_answers.specs.Refusing.{asked_refusal}
-use Rattle.query_run.specs.StoreReading.{reading_of}
-use Rattle.query_run.specs.declared.reading.FileReading.{FileReading}
+use Rattle.file_reading.specs.StoreReading.{reading_of}
+use Rattle.file_reading.specs.declared.reading.FileReading.{FileReading}
 
 -- a text has become another by the block of a query, or of its refusal, put behind it
 unfoldable pub AddsQuery : World → ℕ → Result Query QueryRefusal → List ℕ → List ℕ → Type 0

@@ -1,4 +1,4 @@
--- How often stored times are read while events are taken and queries are answered.
+-- How often stored times are read while an events file and a script are answered.
 use Rattle.std.specs.Prelude.{ℕ, Bool, true, false, ◌+◌, ◌*◌, List, [], ◌∷◌, length, Result, Ok, Err}
 use Rattle.std.specs.List.{flat_map, list_all, list_any}
 use Rattle.graph_model.specs.declared.events.EdgeName.{EdgeName}
@@ -13,20 +13,12 @@ use Rattle.graph_model.specs.Entity.{edge_cmp, entity_of, is_about}
 use Rattle.graph_model.specs.Names.{same_name}
 use Rattle.graph_model.specs.Reading.{Reading, base_world, reading, world_of}
 use Rattle.graph_model.specs.Rising.{rising}
-use Rattle.graph_model.specs.Script.{QueryRefusal, is_blank, lines_of}
+use Rattle.graph_model.specs.Script.{QueryRefusal, Windows, is_blank, lines_of}
 use Rattle.graph_model.specs.QueryLine.{query_of}
-use Rattle.graph_model.specs.Searches.{digits}
 use Rattle.graph_model.specs.World.{World}
+use Rattle.file_reading.specs.Costs.{most_steps}
 use Rattle.query_answers.specs.Cost.{GraphSize, is_counted_query, query_steps}
 use Rattle.query_answers.specs.Refusing.{asked_refusal}
-
--- so many at the most for n accepted events
-abbrev pub paid_steps : ℕ → ℕ
-paid_steps n = n * (digits n + 1)
-
--- and for n accepted events and one more for which memory was wanting
-abbrev pub most_steps : ℕ → ℕ
-most_steps n = (n + 1) * (digits n + 1)
 
 -- the edge that an entity is, if it is one
 abbrev pub edges_in : Entity → List EdgeName
@@ -48,11 +40,12 @@ size_read r = record {
   is_known = is_known_from r;
 }
 
--- whether a line has no query that is answered and not counted
+-- whether a line has no query that is answered and not counted, or refused once its windows were counted
 abbrev pub is_counted_said : Model → Bool → Result Query QueryRefusal → Bool
 is_counted_said model true said = true
 is_counted_said model false (Ok query) = is_counted_query model query
-is_counted_said model false (Err refusal) = true
+is_counted_said model false (Err Windows) = false
+is_counted_said model false (Err _) = true
 
 abbrev pub is_counted_line : World → List ℕ → Bool
 is_counted_line w line = is_counted_said w.model (is_blank line) (query_of asked_refusal w line)

@@ -1,5 +1,5 @@
 // The whole output for an events file and a script.
-ghost use Rattle.std.specs.Prelude.{◌≡◌, ◌<◌, ◌≤◌, ◌+◌, ◌++◌, ◌==◌, ◌&&◌, map, length, IsTrue, IfOk, OnOk};
+ghost use Rattle.std.specs.Prelude.{◌≡◌, ◌⊎◌, ◌<◌, ◌≤◌, ◌+◌, ◌++◌, ◌==◌, ◌&&◌, map, length, IsTrue, IfOk, OnOk};
 ghost use Rattle.std.specs.List.{list_all};
 ghost use Rattle.graph_model.specs.RowText.{rows_text};
 ghost use Rattle.graph_model.specs.Script.{lines_of};
@@ -9,13 +9,17 @@ ghost use Rattle.query_answers.specs.Cost.{size_of};
 ghost use Rattle.query_answers.specs.Refusing.{asked_refusal};
 ghost use Rattle.query_run.specs.Blocks.{IsText};
 ghost use Rattle.query_run.specs.Cost.{counted_steps, is_counted_line, is_counted_script, lines_steps};
-ghost use Rattle.query_run.specs.StoreReading.{refused_of, reading_of};
+ghost use Rattle.file_reading.specs.StoreReading.{refused_of, reading_of};
+ghost use Rattle.outside_io.specs.Outside.{Rises};
+ghost use Rattle.query_run.specs.Runs.{IsAnswered, WritesAnswer};
 
 use crate::line_blocks::add_lines;
 use crate::output_rows::{add_graph, add_refused};
-use crate::reading::{FileReading, RefusedRecord, read_events};
+use crate::top::Status;
 use event_rows::RowWriter;
+use file_reading::{FileReading, RefusedRecord, read_events};
 use graph_model::{Memory, Model};
+use outside_io::{Output, Sink, write_all};
 use std::alloc::Global;
 use std::mem::forget;
 use std::sync::ledger::Ledger;
@@ -32,11 +36,11 @@ fn add_all_refused(out: &mut RowWriter, refused: &[RefusedRecord]) -> Result<(),
     Ok(())
 }
 
-/// An output, and whether no record and no query was refused.
+// An output, and whether no record and no query was refused.
 #[derive(Drop)]
-pub struct Answer {
-    pub text: Vec<u8>,
-    pub clean: bool,
+struct Answer {
+    text: Vec<u8>,
+    clean: bool,
 }
 
 // The output for what was read of an events file, and a script.
@@ -70,9 +74,9 @@ fn answer_read<L: Ledger>(
     Ok(Answer { text, clean })
 }
 
-/// The output for an events file and a script, under a model.
+// The output for an events file and a script, under a model.
 #[tactic(auto, unfolding(graph_model::specs::Output::IsOutput, graph_model::specs::Output::is_clean))]
-pub fn answer_files<L: Ledger>(
+fn answer_files<L: Ledger>(
     alloc: Global,
     model: Model,
     events: &[u8],
@@ -93,4 +97,34 @@ pub fn answer_files<L: Ledger>(
     // given back block by block.
     forget(read);
     answer
+}
+
+/// Writes the output for an events file and a script, under a model.
+///
+/// The status says whether all of it was written, and whether something was refused, or that memory was wanting, and then
+/// nothing was written, or that the sink failed, and then a front of it was.
+pub fn write_output<O: Sink, L: Ledger>(
+    alloc: Global,
+    model: Model,
+    events: &[u8],
+    script: &[u8],
+    sink: &mut O,
+    steps: &mut Steps<L>,
+) -> Status
+    requires short { length script.now < u32.MAX }
+    ensures writes { WritesAnswer result model events.now script.now
+        (O.written sink.old) (O.written sink.new) }
+    ensures fault { result ≡ Status.OutputFault → Rises (O.faults sink.old) (O.faults sink.new) }
+    ensures complete { IsAnswered result ⊎ Rises (O.faults sink.old) (O.faults sink.new) }
+    ensures cost { IsTrue (is_counted_script model events.now script.now)
+        → steps.new ≤ steps.old + counted_steps model events.now script.now }
+{
+    let Ok(answer) = answer_files(alloc, model, events, script, steps) else {
+        return Status::Memory;
+    };
+    match write_all(sink, answer.text.as_slice()) {
+        Ok(()) if answer.clean => Status::Done,
+        Ok(()) => Status::DoneWithRefusals,
+        Err(Output) => Status::OutputFault,
+    }
 }

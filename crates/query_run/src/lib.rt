@@ -1,7 +1,6 @@
 //! The top call: from the words of a command and the bytes of its files to the text that is written.
 #![tactic(auto)]
 
-mod causes;
 mod endings;
 mod file_output;
 mod laws;
@@ -9,10 +8,8 @@ mod line_blocks;
 mod lines;
 mod output_rows;
 mod query_causes;
-mod reading;
 mod top;
-mod words;
 
-pub use laws::{commands_name_their_files, outputs_are_one};
+pub use laws::outputs_are_one;
 pub use query_answers::{AnswerFault, PointAnswer, PointAsk, answer_point, answer_query};
 pub use top::{Status, Which, run};

@@ -60,8 +60,8 @@ fn add_answer<L: Ledger>(
 {
     match answer_query(alloc, store, query, number, out, steps) {
         Ok(()) => Ok(true),
-        Err(AnswerFault::Unbuilt) => {
-            refuse_query(alloc, out, number, QueryCause::Unbuilt)?;
+        Err(AnswerFault::Windows { count: _ }) => {
+            refuse_query(alloc, out, number, QueryCause::Windows)?;
             Ok(false)
         }
         Err(AnswerFault::Memory) => Err(AllocError),

@@ -3,12 +3,11 @@ ghost use Rattle.std.specs.Prelude.{◌≡◌, ◌++◌, OnOk};
 ghost use Rattle.csv.specs.Writing.{default_writer, row_text};
 ghost use Rattle.graph_model.specs.Output.{graph_row, model_word as word_of_model, refused_query_row, refused_row};
 ghost use Rattle.query_run.specs.Causes.{query_refusal_of};
-ghost use Rattle.query_run.specs.StoreReading.{refused_of};
+ghost use Rattle.file_reading.specs.StoreReading.{refused_of};
 
-use crate::causes::word;
 use crate::query_causes::{QueryCause, query_word};
-use crate::reading::RefusedRecord;
 use event_rows::RowWriter;
+use file_reading::{RefusedRecord, word};
 use graph_model::{Bounds, Memory, Model};
 use itoa::Buffer;
 

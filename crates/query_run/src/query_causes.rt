@@ -16,7 +16,7 @@ pub enum QueryCause {
     Shape,
     Number,
     Depth,
-    Unbuilt,
+    Windows,
 }
 
 /// The word for a cause.
@@ -28,7 +28,7 @@ pub fn query_word(cause: QueryCause) -> &'static [u8]
         QueryCause::Shape => b"shape",
         QueryCause::Number => b"number",
         QueryCause::Depth => b"depth",
-        QueryCause::Unbuilt => b"unbuilt",
+        QueryCause::Windows => b"windows",
     }
 }
 

@@ -1,15 +1,14 @@
 // From bytes to bytes.
-ghost use Rattle.std.specs.Prelude.{◌≡◌, ◌⊎◌, ◌↔◌, ◌<◌, ◌≤◌, ◌+◌, ◌%◌, ◌^◌, false, IfSome, None};
-ghost use Rattle.std.specs.Io.KnownBytes.{IsAtEnd};
-ghost use Rattle.graph_model.specs.Command.{command};
+ghost use Rattle.std.specs.Prelude.{◌≡◌, ◌⊎◌, ◌↔◌, ◌<◌, ◌+◌, ◌%◌, ◌^◌, [], None};
+ghost use Rattle.command_words.specs.Command.{command};
 ghost use Rattle.graph_model.specs.Limits.{most_events_bytes, most_script_bytes};
 ghost use Rattle.outside_io.specs.Outside.{Rises};
-ghost use Rattle.query_run.specs.Runs.{HasEvents, IsAmiss, IsAnswered, IsCounted, IsOver, IsTooLong, MayHaveWritten, Misses, Writes};
+ghost use Rattle.query_run.specs.Runs.{HasEvents, HasRead, IsAmiss, IsAnswered, IsCounted, IsTooLong, MayHaveWritten, Misses, Writes, begun_by};
 
-use crate::file_output::answer_files;
-use crate::words::read_words;
+use crate::file_output::write_output;
+use command_words::{Command, generated, generator_script, read_words};
 use graph_model::{MOST_EVENTS_BYTES, MOST_SCRIPT_BYTES, Words};
-use outside_io::{Inputs, Output, ReadFault, Sink, read_all, write_all};
+use outside_io::{Inputs, ReadFault, Sink, read_all};
 use std::alloc::Global;
 use std::sync::ledger::Ledger;
 use time_column::Steps;
@@ -41,8 +40,9 @@ pub enum Status {
 }
 
 /// Carries out the command that the words after the program's name are: reads the events file to its end, then the
-/// script to its end, and only then writes the output. Nothing is written at any status but `Done`, `DoneWithRefusals`
-/// and `OutputFault`; what was written at an `OutputFault` is a front of the output.
+/// script to its end, and only then writes the output. Where the words ask for generated records, no file is begun, and
+/// the output is that for the generator's events file and script. Nothing is written at any status but `Done`,
+/// `DoneWithRefusals` and `OutputFault`; what was written at an `OutputFault` is a front of the output.
 pub fn run<I: Inputs, O: Sink, L: Ledger>(
     alloc: Global,
     words: &Words,
@@ -84,19 +84,22 @@ pub fn run<I: Inputs, O: Sink, L: Ledger>(
     ensures script_long_after { result ≡ Status.TooLong Which.Script
         → HasEvents (command words.now) (I.files inputs.old) }
 
-    // An output, or a front of it, stands on both files, read to their ends.
-    ensures to_the_ends { MayHaveWritten result
-        → (I.begun inputs.new ≡ (I.begun inputs.old + 2) % 2 ^ 64)
-        × IfSome (I.had_left inputs.new) (λ had. had ≡ false) × IsAtEnd (I.left inputs.new) }
+    // Where the words begin no file, the inputs are left alone.
+    ensures untouched { begun_by (command words.now) ≡ [] → inputs.new ≡ inputs.old }
 
-    // Where nothing is amiss with the words and the files, no count of faults rose, and no file is over
-    // its limit, the answer is there, or memory was wanting.
+    // An output, or a front of it, stands on both files, read to their ends, or on none.
+    ensures to_the_ends { MayHaveWritten result
+        → HasRead (command words.now) (I.begun inputs.old) (I.begun inputs.new)
+        (I.had_left inputs.new) (I.left inputs.new) }
+
+    // Where the words are a command, no file that it begins is missing or over its limit, and no count of
+    // faults rose, the answer is there, or memory was wanting.
     ensures complete { IsAnswered result
-        ⊎ (IsAmiss (command words.now) (I.files inputs.old)
-        ⊎ (Rises (I.faults_before inputs.new) (I.faults inputs.new)
+        ⊎ ((command words.now ≡ None)
         ⊎ (Rises (O.faults sink.old) (O.faults sink.new)
-        ⊎ (IsOver Which.Events (I.begun inputs.old) (I.begun inputs.new) (I.given inputs.new)
-        ⊎ IsOver Which.Script (I.begun inputs.old) (I.begun inputs.new) (I.given inputs.new))))) }
+        ⊎ IsAmiss (command words.now) (I.files inputs.old)
+        (I.faults_before inputs.new) (I.faults inputs.new)
+        (I.begun inputs.old) (I.begun inputs.new) (I.given inputs.new))) }
 
     // Stored times are read no more often than the events and the queries ask for, where each answered
     // query is counted, and never where the words are no command. For a question about a node or an edge
@@ -106,30 +109,39 @@ pub fn run<I: Inputs, O: Sink, L: Ledger>(
     let Some(command) = read_words(words) else {
         return Status::Usage;
     };
-    let events = match read_all(alloc, inputs, command.events, MOST_EVENTS_BYTES) {
-        Ok(bytes) => bytes,
-        Err(ReadFault::Input) => return Status::InputFault(Which::Events),
-        Err(ReadFault::TooLong) => return Status::TooLong(Which::Events),
-        Err(ReadFault::Memory) => return Status::Memory,
-    };
-    let script = match read_all(alloc, inputs, command.script, MOST_SCRIPT_BYTES) {
-        Ok(bytes) => bytes,
-        Err(ReadFault::Input) => return Status::InputFault(Which::Script),
-        Err(ReadFault::TooLong) => return Status::TooLong(Which::Script),
-        Err(ReadFault::Memory) => return Status::Memory,
-    };
-    let Ok(answer) = answer_files(
-        alloc,
-        command.model,
-        events.as_slice(),
-        script.as_slice(),
-        steps,
-    ) else {
-        return Status::Memory;
-    };
-    match write_all(sink, answer.text.as_slice()) {
-        Ok(()) if answer.clean => Status::Done,
-        Ok(()) => Status::DoneWithRefusals,
-        Err(Output) => Status::OutputFault,
+    match command {
+        Command::Files {
+            model,
+            events,
+            script,
+        } => {
+            let events = match read_all(alloc, inputs, events, MOST_EVENTS_BYTES) {
+                Ok(bytes) => bytes,
+                Err(ReadFault::Input) => return Status::InputFault(Which::Events),
+                Err(ReadFault::TooLong) => return Status::TooLong(Which::Events),
+                Err(ReadFault::Memory) => return Status::Memory,
+            };
+            let script = match read_all(alloc, inputs, script, MOST_SCRIPT_BYTES) {
+                Ok(bytes) => bytes,
+                Err(ReadFault::Input) => return Status::InputFault(Which::Script),
+                Err(ReadFault::TooLong) => return Status::TooLong(Which::Script),
+                Err(ReadFault::Memory) => return Status::Memory,
+            };
+            write_output(
+                alloc,
+                model,
+                events.as_slice(),
+                script.as_slice(),
+                sink,
+                steps,
+            )
+        }
+        Command::Generate { model, count } => {
+            let Ok(events) = generated(alloc, count) else {
+                return Status::Memory;
+            };
+            let script = generator_script().as_bytes();
+            write_output(alloc, model, events.as_slice(), script, sink, steps)
+        }
     }
 }

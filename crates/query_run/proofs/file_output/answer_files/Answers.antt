@@ -1,7 +1,9 @@
+use Rattle.graph_model.specs.Reading.{reading}
 use Rattle.graph_store.specs.Contents.{base_of}
 use Rattle.query_answers.specs.Cost.{size_of}
 use Rattle.query_run.proofs.Counted.{counted_steps-all, counted_steps-read}
 use Rattle.query_run.proofs.Outputs.{all_clean, all_outputs, base-read}
+use Rattle.query_run.proofs.Sizes.{size_of-reading_of}
 use Rattle.query_run.proofs.file_output.answer_files.Goals as goal
 
 pub returns-clause-text : goal.returns-clause-text
@@ -19,4 +21,4 @@ pub returns-clause-cost : goal.returns-clause-cost
 returns-clause-cost g c =
     let read = c.in_ok-read.read in
     counted_steps-all c.args.model (base_of read.store) c.args.events.now c.args.script.now (size_of read.store) c.args.steps.now c.read_events.new.steps c.answer_read-answer.new.steps
-    (base-read c.args.model read c.args.events.now c.in_ok-read.ensures.told c.in_ok-read.ensures.model) c.in_ok-read.ensures.size c.in_ok-read.ensures.cost c.answer_read-answer.ensures.cost
+    (base-read c.args.model read c.args.events.now c.in_ok-read.ensures.told c.in_ok-read.ensures.model) (size_of-reading_of read (reading c.args.model c.args.events.now) c.in_ok-read.ensures.indexed c.in_ok-read.ensures.told) c.in_ok-read.ensures.cost c.answer_read-answer.ensures.cost

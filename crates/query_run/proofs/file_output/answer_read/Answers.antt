@@ -2,7 +2,7 @@ use Rattle.std.proofs.Common.{◌≡◌, ◌∙◌, sym, length, map, vec_len, r
 use Rattle.std.proofs.lemmas.List.{length-map}
 use Rattle.graph_model.specs.Script.{lines_of}
 use Rattle.graph_store.specs.Contents.{base_of}
-use Rattle.query_run.specs.StoreReading.{refused_of}
+use Rattle.file_reading.specs.StoreReading.{refused_of}
 use Rattle.query_run.proofs.Outputs.{text-whole}
 use Rattle.query_run.proofs.file_output.answer_read.Goals as goal
 
