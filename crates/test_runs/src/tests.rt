@@ -1,6 +1,7 @@
 // Whole runs over memory: three edges and a question for their degrees, and an edge that is deleted as it is added.
 ghost use Rattle.std.specs.Prelude.{◌≡◌, ◌<◌};
 
+use command_words::{generated, generator_script};
 use graph_model::Words;
 use outside_io::{Calls, FileItem, Files, MemoryInputs, MemorySink};
 use query_run::{Status, Which, run};
@@ -59,7 +60,19 @@ fn run_once<L: Ledger>(
     run(alloc, words, inputs, sink, &mut Steps::<L>::new(blank))
 }
 
-// What a run says and writes, where the inputs give ten bytes at a time, the sink takes sixteen, and call 0 is none.
+// What a run says and writes, where the sink takes sixteen bytes at a time.
+fn outcome_of(
+    alloc: Global,
+    words: &Words,
+    inputs: &mut MemoryInputs,
+    write_fails: u64,
+) -> Result<(Status, Vec<u8>), AllocError> {
+    let mut sink = MemorySink::new(alloc, failing(alloc, write_fails)?, 16);
+    let status = run_once::<Brand>(alloc, words, inputs, &mut sink, Blank::new(1));
+    Ok((status, Vec::from_slice(alloc, sink.written())?))
+}
+
+// The same on two files, where the inputs give ten bytes at a time, and call 0 is none.
 fn outcome(
     alloc: Global,
     model: &str,
@@ -68,15 +81,51 @@ fn outcome(
     write_fails: u64,
 ) -> Result<(Status, Vec<u8>), AllocError> {
     let mut inputs = MemoryInputs::new(files(alloc)?, failing(alloc, read_fails)?, 10);
-    let mut sink = MemorySink::new(alloc, failing(alloc, write_fails)?, 16);
-    let status = run_once::<Brand>(
+    outcome_of(
         alloc,
         &words(alloc, model, events)?,
         &mut inputs,
-        &mut sink,
-        Blank::new(1),
-    );
-    Ok((status, Vec::from_slice(alloc, sink.written())?))
+        write_fails,
+    )
+}
+
+// The same on a hundred generated records, with inputs whose first call fails.
+fn generated_outcome(
+    alloc: Global,
+    model: &str,
+    write_fails: u64,
+) -> Result<(Status, Vec<u8>), AllocError> {
+    let mut words = Words::new(alloc);
+    for word in ["--generate", "100", "--model", model] {
+        words.push(word)?;
+    }
+    let mut inputs = MemoryInputs::new(Files::new(alloc), failing(alloc, 1)?, 10);
+    outcome_of(alloc, &words, &mut inputs, write_fails)
+}
+
+// The same on files with the generator's bytes.
+fn read_outcome(alloc: Global, model: &str) -> Result<(Status, Vec<u8>), AllocError> {
+    let mut files = Files::new(alloc);
+    let events = generated(alloc, 100)?;
+    files.push(FileItem::new(alloc, "e", events.as_slice())?)?;
+    files.push(FileItem::new(alloc, "s", generator_script().as_bytes())?)?;
+    let mut inputs = MemoryInputs::new(files, failing(alloc, 0)?, 1_000);
+    outcome_of(alloc, &words(alloc, model, "e")?, &mut inputs, 0)
+}
+
+// A run on generated records begins no file, and writes what the same records in a file give.
+#[test]
+fn generated_records_are_answered_as_if_read(rt: HostRuntime) -> Result<(), Fail> {
+    for model in ["event", "persistent"] {
+        let (said, text) = generated_outcome(rt.alloc(), model, 0)?;
+        let (read_said, read_text) = read_outcome(rt.alloc(), model)?;
+        assert_eq!(rt; said, read_said);
+        assert_eq!(rt; text.as_slice(), read_text.as_slice());
+        let (fault, front) = generated_outcome(rt.alloc(), model, 3)?;
+        assert_eq!(rt; fault, Status::OutputFault);
+        assert_eq!(rt; Some(front.as_slice()), text.as_slice().get(..32));
+    }
+    Ok(())
 }
 
 // The events file takes a `begin` and five reads, the script a `begin` and three; the output takes ten writes.

@@ -2,8 +2,14 @@
 #![tactic(auto)]
 
 #[cfg(test)]
+mod arrivals;
+#[cfg(test)]
 mod filters;
 #[cfg(test)]
 mod listing;
 #[cfg(test)]
 mod tests;
+#[cfg(test)]
+mod walks;
+#[cfg(test)]
+mod windows_in_a_row;

@@ -74,7 +74,7 @@ fn add_listed_types<V: View, L: Ledger>(
     view: &V,
     steps: &mut Steps<L>,
 ) -> Result<(), Memory> {
-    let types = list_types(alloc, view, steps)?;
+    let types = list_types(alloc, view, Roster::All, steps)?;
     add_types(alloc, text, &types)
 }
 
@@ -85,7 +85,7 @@ fn add_listed_events<V: View, L: Ledger>(
     view: &V,
     steps: &mut Steps<L>,
 ) -> Result<(), Memory> {
-    let events = list_world(alloc, view, steps)?;
+    let events = list_world(alloc, view, Roster::All, steps)?;
     add_events(alloc, text, &events)
 }
 
@@ -124,8 +124,8 @@ fn stored_again<L: Ledger>(
 {
     let store = graph.store;
     let _limits = store.events();
-    let events = list_world(alloc, graph, steps)?;
-    let types = list_types(alloc, graph, steps)?;
+    let events = list_world(alloc, graph, Roster::All, steps)?;
+    let types = list_types(alloc, graph, Roster::All, steps)?;
     into_store(alloc, store.model(), store.bounds(), &types, &events, steps)
 }
 

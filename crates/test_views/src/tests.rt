@@ -11,7 +11,9 @@ use std::process::Abort;
 use std::sync::ledger::{Blank, Ledger};
 use std::test::Fail;
 use time_column::Steps;
-use view_trait::{NodeList, View, edge_present, neighbours};
+use view_trait::{
+    EdgeList, NodeList, Roster, View, WorldExtent, edge_present, extent, neighbours, next_contact,
+};
 use window_view::{at, window};
 
 /// What happens to an edge.
@@ -189,6 +191,35 @@ fn four_windows<L: Ledger>(rt: &impl Abort, graph: &PersistentGraph<'_>, steps: 
     assert_eq!(rt; first_present(&at(graph, 9), steps), Some(true));
 }
 
+/// The next contact of the first edge after a moment.
+fn contact<V: View, L: Ledger>(view: &V, after: i64, steps: &mut Steps<L>) -> Option<i64> {
+    if view.store().edges() == 0 {
+        return None;
+    }
+    next_contact(view, EdgeId(0), after, steps)
+}
+
+/// The edge lives on from one moment to the next up to its deletion, also in a window that it is
+/// carried into.
+fn contacts<L: Ledger>(rt: &impl Abort, graph: &PersistentGraph<'_>, steps: &mut Steps<L>) {
+    assert_eq!(rt; contact(graph, 0, steps), Some(1));
+    assert_eq!(rt; contact(graph, 1, steps), Some(2));
+    assert_eq!(rt; contact(graph, 4, steps), Some(9));
+    assert_eq!(rt; contact(&window(graph, 2, 9), 0, steps), Some(2));
+    assert_eq!(rt; contact(&window(graph, 2, 9), 4, steps), None);
+}
+
+/// Two events are in a window, and the addition is carried into it.
+fn counted<L: Ledger>(rt: &impl Abort, graph: &PersistentGraph<'_>, steps: &mut Steps<L>) {
+    let shown = extent(&window(graph, 3, 10), Roster::All, steps);
+    let wanted = WorldExtent {
+        events: 3,
+        first: Some(3),
+        last: Some(9),
+    };
+    assert_eq!(rt; shown, wanted);
+}
+
 /// A window beyond the window that it stands on has no moment and no edge.
 fn beyond<L: Ledger>(rt: &impl Abort, graph: PersistentGraph<'_>, steps: &mut Steps<L>) {
     let beyond = window(window(graph, 0, 5), 7, 9);
@@ -232,6 +263,8 @@ fn deletions<L: Ledger>(
     assert!(rt; EventGraph::over(store).is_none());
     let graph = PersistentGraph::over(store).ok_or("the store is of the persistent model")?;
     four_windows(rt, &graph, steps);
+    contacts(rt, &graph, steps);
+    counted(rt, &graph, steps);
     beyond(rt, graph, steps);
     Ok(())
 }
@@ -272,4 +305,21 @@ fn nests_by_value_and_over_references(rt: HostRuntime) -> Result<(), Fail> {
 #[test]
 fn deleted_edge_under_windows(rt: HostRuntime) -> Result<(), Fail> {
     windows_of_a_deleted_edge::<Brand>(&rt, rt.alloc(), Blank::new(1))
+}
+
+#[test]
+fn numbers_are_left_once_each(rt: HostRuntime) -> Result<(), Fail> {
+    let mut nodes = NodeList::new(rt.alloc());
+    nodes.refill([7, 3, 7, 1].as_slice())?;
+    assert_eq!(rt; nodes.len(), 3);
+    assert_eq!(rt;
+        (nodes.item(0).0, nodes.item(1).0, nodes.item(2).0),
+        (1, 3, 7)
+    );
+    let mut edges = EdgeList::new(rt.alloc());
+    edges.push(EdgeId(9))?;
+    edges.refill([2, 2].as_slice())?;
+    assert_eq!(rt; edges.len(), 1);
+    assert_eq!(rt; edges.item(0), EdgeId(2));
+    Ok(())
 }

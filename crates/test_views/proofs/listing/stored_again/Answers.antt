@@ -1,5 +1,12 @@
+use Rattle.view_trait.proofs.Covered.{Covers-whole}
 use Rattle.test_views.proofs.StoredAgain.{base_storable}
 use Rattle.test_views.proofs.listing.stored_again.Goals as goal
+
+pub list_world-requires : goal.list_world-requires
+list_world-requires g c = record { covers = Covers-whole _ _ }
+
+pub list_types-requires : goal.list_types-requires
+list_types-requires g c = record { covers = Covers-whole _ _ }
 
 pub into_store-requires : goal.into_store-requires
 into_store-requires g c =
