@@ -72,7 +72,9 @@ fn carry(carried: &mut NumberSet, carries: bool, x: HeldEvent) -> Result<(), Mem
 fn start_over(held: &[HeldEvent], mark: usize, carried: &mut NumberSet, t: i64) -> usize
     requires rise { TimesRise held.now }
     ensures earlier { AreEarlier held.now result t }
-    ensures passed { (carries : Bool) → IsPassed carries held.now mark carried.old → IsPassed carries held.now result carried.new }
+    ensures passed { (carries : Bool)
+        → IsPassed carries held.now mark carried.old
+        → IsPassed carries held.now result carried.new }
 {
     if is_before(held, mark, t) {
         mark
@@ -105,7 +107,8 @@ pub(crate) fn pass(
 
 /// Adds the numbers of events.
 fn add_numbers(held: &[HeldEvent], listed: &mut NumberSet) -> Result<(), Memory>
-    ensures ok { OnOk result ((n : ℕ) → is_listed listed.new n ≡ (has_event held.now n || is_listed listed.old n)) }
+    ensures ok { OnOk result ((n : ℕ)
+        → is_listed listed.new n ≡ (has_event held.now n || is_listed listed.old n)) }
     ensures few { length listed.new ≤ length listed.old + length held.now }
 {
     for x in held {
@@ -116,7 +119,8 @@ fn add_numbers(held: &[HeldEvent], listed: &mut NumberSet) -> Result<(), Memory>
 
 /// Adds numbers.
 fn add_all(numbers: &[u32], listed: &mut NumberSet) -> Result<(), Memory>
-    ensures ok { OnOk result ((n : ℕ) → is_listed listed.new n ≡ (is_listed numbers.now n || is_listed listed.old n)) }
+    ensures ok { OnOk result ((n : ℕ)
+        → is_listed listed.new n ≡ (is_listed numbers.now n || is_listed listed.old n)) }
     ensures few { length listed.new ≤ length listed.old + length numbers.now }
 {
     for n in numbers {

@@ -41,7 +41,9 @@ fn place_of(numbers: &[u32], places: &[usize], n: u32) -> Option<usize>
 
 /// Makes room for the place of a number.
 fn make_room(places: &mut Vec<usize>, n: u32) -> Result<(), Memory>
-    ensures placed { (numbers : List ℕ) → ArePlaced numbers places.old.items → ArePlaced numbers places.new.items }
+    ensures placed { (numbers : List ℕ)
+        → ArePlaced numbers places.old.items
+        → ArePlaced numbers places.new.items }
     ensures ok { OnOk result (n < length places.new.items) }
 {
     if places.len() <= n as usize {
@@ -70,7 +72,8 @@ fn take_away(numbers: &mut Vec<u32>, places: &mut Vec<usize>, place: usize)
     requires placed { ArePlaced numbers.old.items places.old.items }
     requires place { place < length numbers.old.items }
     ensures placed { ArePlaced numbers.new.items places.new.items }
-    ensures others { (m : ℕ) → is_listed numbers.new.items m ≡ (is_listed numbers.old.items m && not (slice_index numbers.old.items place == m)) }
+    ensures others { (m : ℕ) → is_listed numbers.new.items m
+        ≡ (is_listed numbers.old.items m && not (slice_index numbers.old.items place == m)) }
 {
     numbers.swap_remove(place);
     if place < numbers.len() {

@@ -29,7 +29,8 @@ impl Model for EventSweep {
 
     ghost view = { λ s. record { carries = s.carries; held = s.held.items; listed = s.listed } };
 
-    ghost invariant = { λ s. TimesRise s.held.items × IsPassed s.carries s.held.items s.first s.carried };
+    ghost invariant = { λ s. TimesRise s.held.items
+        × IsPassed s.carries s.held.items s.first s.carried };
 }
 
 impl EventSweep {
@@ -54,8 +55,10 @@ impl EventSweep {
     pub fn move_to(&mut self, from: i64, to: i64) -> Result<(), Memory>
         ensures held { self.new.held ≡ self.old.held }
         ensures carries { self.new.carries ≡ self.old.carries }
-        ensures listed { OnOk result ((n : ℕ) → is_listed self.new.listed n ≡ is_shown self.old.carries self.old.held from to n) }
-        ensures few { OnOk result (self.old.carries ≡ false → length self.new.listed ≤ length (events_between from to self.old.held)) }
+        ensures listed { OnOk result ((n : ℕ) → is_listed self.new.listed n
+            ≡ is_shown self.old.carries self.old.held from to n) }
+        ensures few { OnOk result (self.old.carries ≡ false
+            → length self.new.listed ≤ length (events_between from to self.old.held)) }
     {
         pass(
             self.held.as_slice(),

@@ -229,7 +229,7 @@ impl History {
         ensures span { IsSpan self.now.updates result }
         ensures taken { IsTaken model cut self.now.updates result }
         ensures clipped { IsClipped model bounds cut self.now.updates span result }
-        ensures cost { steps.new ≤ steps.old + 2 * (digits (span.to - span.from) + 1) }
+        ensures cost { steps.new ≤ steps.old + 2 * digits (span.to - span.from) }
     {
         if cut.is_empty() {
             return Span {

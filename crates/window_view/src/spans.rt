@@ -33,7 +33,7 @@ pub fn window_span<L: Ledger>(
     requires taken { IsTaken model bounds history.now.updates span }
     requires allowed { IsAllowed model history.now.updates }
     ensures shows { (c : Contents) (w : World) (x : Entity) → IsShown c w → w.model ≡ model → w.bounds ≡ bounds → Tells c x history.now.updates → Shows c w x span → Shows c (shown_window w from to) x result }
-    ensures cost { steps.new ≤ steps.old + 2 * (digits (span.to - span.from) + 1) }
+    ensures cost { steps.new ≤ steps.old + 2 * digits (span.to - span.from) }
 {
     history.clip(span, bounds, bounds.cut(from, to), model, steps)
 }
