@@ -69,7 +69,7 @@ pub fn span_with<L: Ledger>(
     requires taken { IsTaken model part.bounds history.now.updates part.span }
     requires allowed { IsAllowed model history.now.updates }
     ensures stands { (c : Contents) (w : World) (x : Entity) → IsShown c w → w.model ≡ model → Tells c x history.now.updates → keeps ≡ keeps_entity c w op.now x → StandsFor c w x part → StandsFor c (ready_view c w op.now) x result }
-    ensures cost { steps.new ≤ steps.old + own_searches op.now * (digits (part.span.to - part.span.from) + 1) }
+    ensures cost { steps.new ≤ steps.old + own_searches op.now * digits (part.span.to - part.span.from) }
 {
     match moments(op) {
         Some((from, to)) => BoundedSpan {

@@ -17,6 +17,7 @@ use Rattle.graph_model.specs.Entity.{entity_cmp, same_entity, entity_of, is_abou
 use Rattle.graph_model.specs.Rising.{in_order, IsInOrder, Rises}
 use Rattle.graph_model.specs.World.{World, IsLawful, event_cmp, arrange, events_of}
 use Rattle.world_laws.proofs.Filters.{each_weaker, each_append, kept_pass}
+use Rattle.world_laws.proofs.Counts.{length_in_order}
 use Rattle.world_laws.proofs.DistinctRising.{distinct_rising}
 use Rattle.world_laws.proofs.InOrder.{each_in_order, IsInOrder-filter}
 use Rattle.world_laws.proofs.Order.{then_equal, same_entity-exact}
@@ -220,6 +221,15 @@ places_sorted c w xs ps ys lawful h is moved sorted =
           (each_in_map (λ (p : EventPlace × Event). p.0) (IsFoundAt w all) (IsPlaced w xs) (λ p f. record { shown = subst (λ n. p.0.shown < n) length_is f.shown; place = f.place; time = f.time ∙ ap (λ (x : Event). x.time) (sym f.event) }) zs found));
       events = ap (map (event_placed w xs)) places ∙ (events_found w all zs found ∙ events);
     }
+
+-- and they are as many as the world's events
+pub length_all_placed : (c : Contents) (w : World) (xs : List ShownEntity) → IsLawful w → AreShown c w xs → length (all_placed w 0 (entities_of xs)) ≡ length w.events
+length_all_placed c w xs lawful h =
+    let es = entities_of xs in
+    let pairs = all_pairs w 0 es in
+    sym (ap length (firsts w 0 es)) ∙ (length-map pairs (λ (p : EventPlace × Event). p.0)
+    ∙ (sym (length-map pairs (λ (p : EventPlace × Event). p.1)) ∙ (ap length (seconds w 0 es)
+    ∙ (sym (length_in_order event_cmp (flat_map (events_of w) es)) ∙ ap length (whole w lawful es h.rise h.exactly)))))
 
 -- ---- places that are pushed
 

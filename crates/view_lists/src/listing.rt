@@ -179,9 +179,9 @@ pub(crate) fn shown_by_number<'s, V: View, L: Ledger>(
     requires covers { Covers (V.contents view.now) (V.world view.now) roster }
     ensures found { IfOk result (λ shown.
         AreFound (V.contents view.now) (V.world view.now) shown.items) }
-    ensures cost { OnOk result (StepsWithin steps.old steps.new
+    ensures cost { StepsWithin steps.old steps.new
         (span_searches (V.contents view.now) roster.entry (V.searches view.now))
-        (length (V.contents view.now).accepted)) }
+        (length (V.contents view.now).accepted) }
 {
     let store = view.store();
     roster_facts(store, roster);
@@ -256,7 +256,7 @@ fn push_span<L: Ledger>(
         → places.new.items
         ≡ places.old.items
         ++ placed_from shown 0 (spelled x names history.now.updates span lo)) }
-    ensures cost { OnOk result (steps.new ≤ steps.old + (span.to - span.from)) }
+    ensures cost { steps.new ≤ steps.old + (span.to - span.from) }
 {
     let count = push_carried(places, span, lo, shown)?;
     for i in span.from..span.to {
@@ -278,8 +278,8 @@ fn push_events<V: View, L: Ledger>(
         ≡ places.old.items
         ++ placed_from shown 0
         (events_of (V.world view.now) (entity_named one.entry.subject))) }
-    ensures cost { OnOk result (steps.new ≤ steps.old
-        + length (events_of (V.world view.now) (entity_named one.entry.subject))) }
+    ensures cost { steps.new ≤ steps.old
+        + length (events_of (V.world view.now) (entity_named one.entry.subject)) }
 {
     let store = view.store();
     let lo = view.bounds().lo();
@@ -297,7 +297,8 @@ fn places_by_entity<V: View, L: Ledger>(
     requires { AreShown (V.contents view.now) (V.world view.now) shown.now }
     ensures places { IfOk result (λ places.
         places.items ≡ all_placed (V.world view.now) 0 (entities_of shown.now)) }
-    ensures cost { IfOk result (λ places. steps.new ≤ steps.old + length places.items) }
+    ensures cost { steps.new ≤ steps.old
+        + length (all_placed (V.world view.now) 0 (entities_of shown.now)) }
 {
     let store = view.store();
     let _few_nodes = store.nodes();
@@ -321,7 +322,7 @@ pub(crate) fn places_in_order<'s, V: View, L: Ledger>(
     ensures listed { IfOk result (λ listed.
         AreListed (V.contents view.now) (V.world view.now)
         listed.shown.items listed.events.items) }
-    ensures cost { OnOk result (steps.new ≤ steps.old + length (V.world view.now).events) }
+    ensures cost { steps.new ≤ steps.old + length (V.world view.now).events }
 {
     shown.sort_unstable_by(|a, b| a.subject.compare(&b.subject));
     let mut events = places_by_entity(alloc, view, shown.as_slice(), steps)?;
@@ -344,8 +345,8 @@ pub fn list_places<'s, V: View, L: Ledger>(
         listed.shown.items listed.events.items) }
     ensures cost { let c = V.contents view.now in
         let searches = span_searches c roster.entry (V.searches view.now) in
-        OnOk result (steps.new ≤ steps.old + searches * (digits (length c.accepted) + 1)
-        + length (V.world view.now).events) }
+        steps.new ≤ steps.old + searches * digits (length c.accepted)
+        + length (V.world view.now).events }
 {
     let shown = shown_by_number(alloc, view, roster, steps)?;
     places_in_order(alloc, view, shown, steps)

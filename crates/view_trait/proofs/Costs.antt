@@ -5,7 +5,7 @@ use Rattle.world_laws.proofs.Digits.{digits-le}
 use Rattle.view_trait.specs.Meaning.{StepsWithin}
 
 -- searches, and then some more among no more events
-pub StepsWithin-more : (before between after searches more among m : ℕ) → StepsWithin before between searches among → after ≤ between + more * (digits m + 1) → m ≤ among → StepsWithin before after (searches + more) among
+pub StepsWithin-more : (before between after searches more among m : ℕ) → StepsWithin before between searches among → after ≤ between + more * digits m → m ≤ among → StepsWithin before after (searches + more) among
 StepsWithin-more before between after searches more among m h k l =
     let d = digits-le m among l in grind arith
 

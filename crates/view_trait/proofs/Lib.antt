@@ -18,3 +18,4 @@ pub mod Covered
 pub mod NextContact
 pub mod OnRoster
 pub mod Settled
+pub mod NodeSets

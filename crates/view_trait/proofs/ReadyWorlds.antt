@@ -48,7 +48,7 @@ use Rattle.view_trait.proofs.Drawn.{value_none}
 keep_same : (p q : Entity → Bool) (w : World) → AllByRecursion (λ (x : Event). p (entity_of x) ≡ q (entity_of x)) w.events → keep p w ≡ keep q w
 keep_same p q w h = ap (remake w w.bounds) (filter_same (λ (x : Event). p (entity_of x)) (λ (x : Event). q (entity_of x)) w.events h)
 
-keep_known : (p q : Entity → Bool) (c : Contents) (w : World) → IsShown c w → ((x : Entity) → knows c x ≡ true → p x ≡ q x) → keep p w ≡ keep q w
+pub keep_known : (p q : Entity → Bool) (c : Contents) (w : World) → IsShown c w → ((x : Entity) → knows c x ≡ true → p x ≡ q x) → keep p w ≡ keep q w
 keep_known p q c w h same = keep_same p q w (each_weaker (λ (x : Event). knows c (entity_of x) ≡ true) (λ (x : Event). p (entity_of x) ≡ q (entity_of x)) (λ x k. same (entity_of x) k) w.events h.known)
 
 -- ---- layers

@@ -64,4 +64,4 @@ pub record HasLayers (c : Contents) (w : World) (kept : ℕ) : Type 0 where
 
 -- steps from before to after are at most so many searches among so many events
 abbrev pub StepsWithin : ℕ → ℕ → ℕ → ℕ → Type 0
-StepsWithin before after searches among = after ≤ before + searches * (digits among + 1)
+StepsWithin before after searches among = after ≤ before + searches * digits among

@@ -143,7 +143,7 @@ fn node_extent<V: View, L: Ledger>(view: &V, n: NodeId, steps: &mut Steps<L>) ->
     ensures few { result.events ≤ most_events }
     ensures cost { let among = length (V.contents view.now).accepted in
         let searches = (V.searches view.now).nodes in
-        steps.new ≤ steps.old + searches * (digits among + 1) + 2 }
+        steps.new ≤ steps.old + searches * digits among + 2 }
 {
     let store = view.store();
     if n.0 >= store.nodes() {
@@ -162,7 +162,7 @@ fn edge_extent<V: View, L: Ledger>(view: &V, e: EdgeId, steps: &mut Steps<L>) ->
     ensures few { result.events ≤ most_events }
     ensures cost { let among = length (V.contents view.now).accepted in
         let searches = (V.searches view.now).edges in
-        steps.new ≤ steps.old + searches * (digits among + 1) + 2 }
+        steps.new ≤ steps.old + searches * digits among + 2 }
 {
     let store = view.store();
     if e.0 >= store.edges() {
@@ -183,7 +183,7 @@ pub fn extent<V: View, L: Ledger>(view: &V, roster: Roster<'_>, steps: &mut Step
     ensures cost { let c = V.contents view.now in
         let searches = span_searches c roster.entry (V.searches view.now) in
         let readings = 2 * (node_count_on c roster.entry + edge_count_on c roster.entry) in
-        steps.new ≤ steps.old + searches * (digits (length c.accepted) + 1) + readings }
+        steps.new ≤ steps.old + searches * digits (length c.accepted) + readings }
 {
     let store = view.store();
     roster_facts(store, roster);

@@ -1,6 +1,6 @@
 //! Numbers of layers and nodes, and what is asked of them.
 ghost use Rattle.std.specs.Prelude.{◌≡◌, ◌<◌, ◌&&◌, [], length, slice_get, Some, false};
-ghost use Rattle.std.specs.Prelude.{OnOk, OnErr};
+ghost use Rattle.std.specs.Prelude.{IfOk, OnOk, OnErr};
 ghost use Rattle.std.specs.Ordering.{nat_cmp};
 ghost use Rattle.graph_model.specs.Rising.{put_rising, rising};
 ghost use Rattle.view_trait.specs.Numbered.{has_bit, is_listed, keeps_number};
@@ -73,6 +73,15 @@ impl NodeList {
         ensures err { OnErr result (self.new ≡ []) }
     {
         refill_numbers(&mut self.items, numbers)
+    }
+
+    /// Equal nodes.
+    pub fn copy(&self, alloc: Global) -> Result<NodeList, Memory>
+        ensures { IfOk result (λ nodes. nodes ≡ self.now) }
+    {
+        let mut items = Vec::new(alloc);
+        items.extend_from_slice(&self.items)?;
+        Ok(NodeList { items })
     }
 
     /// Whether a node is there.

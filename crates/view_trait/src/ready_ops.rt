@@ -1,5 +1,6 @@
 //! Views whose names were found in a store.
-ghost use Rattle.std.specs.Prelude.{◌≡◌, ◌<◌, [], ◌∷◌, ◌++◌, length, slice_get, Some, OnOk, OnErr};
+ghost use Rattle.std.specs.Prelude.{◌≡◌, ◌<◌, [], ◌∷◌, ◌++◌, length, slice_get, Some, IfOk, OnOk};
+ghost use Rattle.std.specs.Prelude.{OnErr};
 
 use crate::numbers::NodeList;
 use graph_model::{Cmp, Memory, Value};
@@ -24,6 +25,27 @@ pub enum ReadyOp {
     NodesWhere(Option<u32>, Cmp, Value),
     /// The edges whose last event is an addition.
     Valid,
+}
+
+impl ReadyOp {
+    /// An equal view.
+    pub fn copy(&self, alloc: Global) -> Result<ReadyOp, Memory>
+        ensures { IfOk result (λ op. op ≡ self.now) }
+    {
+        match self {
+            ReadyOp::Window(from, to) => Ok(ReadyOp::Window(*from, *to)),
+            ReadyOp::Layers(bits) => Ok(ReadyOp::Layers(*bits)),
+            ReadyOp::Subgraph(nodes) => Ok(ReadyOp::Subgraph(nodes.copy(alloc)?)),
+            ReadyOp::ExcludeNodes(nodes) => Ok(ReadyOp::ExcludeNodes(nodes.copy(alloc)?)),
+            ReadyOp::EdgesWhere(key, cmp, value) => {
+                Ok(ReadyOp::EdgesWhere(*key, *cmp, value.copy()?))
+            }
+            ReadyOp::NodesWhere(key, cmp, value) => {
+                Ok(ReadyOp::NodesWhere(*key, *cmp, value.copy()?))
+            }
+            ReadyOp::Valid => Ok(ReadyOp::Valid),
+        }
+    }
 }
 
 /// A list of ready views, of which the first is applied first.
@@ -73,5 +95,15 @@ impl ReadyOps {
     {
         self.items.push(op)?;
         Ok(())
+    }
+    /// Equal views.
+    pub fn copy(&self, alloc: Global) -> Result<ReadyOps, Memory>
+        ensures { IfOk result (λ ops. ops ≡ self.now) }
+    {
+        let mut ops = ReadyOps::new(alloc);
+        for i in 0..self.len() {
+            ops.push(self.item(i).copy(alloc)?)?;
+        }
+        Ok(ops)
     }
 }

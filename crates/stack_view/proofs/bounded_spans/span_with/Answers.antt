@@ -1,11 +1,14 @@
-use Rattle.std.proofs.Common.{◌≡◌, ℤ, Some, sym, subst, ap, ◌∙◌, to_z, of_z, w64, rules}
+use Rattle.std.proofs.Common.{◌≡◌, ◌≤◌, ◌+◌, ◌-◌, ◌*◌, ℤ, Some, refl, sym, subst, ap, ◌∙◌, to_z, of_z, w64, rules}
 use Rattle.std.proofs.lemmas.Int.{to_z-of_z}
 use mir.Val.{SFits}
 use Rattle.graph_model.specs.Interval.{cut}
+use Rattle.graph_model.specs.Searches.{digits}
 use Rattle.graph_model.specs.Window.{window}
 use Rattle.view_trait.specs.Meaning.{Shows}
+use Rattle.view_trait.specs.declared.ready_ops.ReadyOp.{ReadyOp}
+use Rattle.view_trait.specs.declared.ready_ops.ReadyOp.TheVariants.{Window}
 use Rattle.entity_tests.specs.Ready.{keeps_entity}
-use Rattle.stack_view.specs.Below.{moments_of}
+use Rattle.stack_view.specs.Below.{moments_of, own_searches}
 use Rattle.stack_view.specs.Stands.{StandsFor}
 use Rattle.stack_view.proofs.Stacked.{is_window, is_keep}
 use Rattle.stack_view.proofs.bounded_spans.span_with.Goals as goal
@@ -32,3 +35,12 @@ pub returns-in-None-clause-stands : goal.returns-in-None-clause-stands
 returns-in-None-clause-stands g c = λ contents w x shown model tells keeps stands.
     subst (λ v. StandsFor contents v x c.kept.result) (sym (is_keep contents w c.args.op.now (sym c.in-None.ensures)))
     (c.kept.ensures (keeps_entity contents w c.args.op.now) contents w x keeps stands)
+
+window_searches : (op : ReadyOp) (ends : ℤ × ℤ) → moments_of op ≡ Some ends → own_searches op ≡ 2
+window_searches (Window a b) ends h = refl
+window_searches _ ends h = cc
+
+pub returns-in-Some-clause-cost : goal.returns-in-Some-clause-cost
+returns-in-Some-clause-cost g c =
+    let is : moments_of c.args.op.now ≡ Some (c.in-Some.from, c.in-Some.to) = (cc) in
+    subst (λ n. c.window_span.new.steps ≤ c.args.steps.now + n * digits (c.args.part.span.to - c.args.part.span.from)) (sym (window_searches c.args.op.now (c.in-Some.from, c.in-Some.to) is)) c.window_span.ensures.cost

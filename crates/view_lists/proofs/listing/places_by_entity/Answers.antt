@@ -3,7 +3,7 @@ use Rattle.std.proofs.lemmas.List.Elements.{All-get_or}
 use Rattle.graph_model.specs.Accepting.{Events}
 use Rattle.graph_store.specs.Contents.{Contents}
 use Rattle.view_lists.specs.Listing.{IsShownEntity, entity_named}
-use Rattle.view_lists.proofs.Spent.{spent_more}
+use Rattle.view_lists.proofs.Spent.{spent_more, spent_within}
 use Rattle.view_lists.proofs.ShownOnes.{shown_few}
 use Rattle.view_lists.proofs.SpanPlaces.{places_more, places_all}
 use Rattle.view_lists.proofs.listing.places_by_entity.Goals as goal
@@ -30,7 +30,7 @@ loop-i-preserved g c =
     let pushed = c.in_ok-push_events.ensures.places in
     record {
       places = places_more (g.V.View.world c.args.view.now) c.args.shown.now c.loop-i.i c.index-shown-i.result c.loop-i.places.items c.push_events.new.places.items c.loop-i-test.true (sym c.index-shown-i.is) c.loop-i.invariant.places pushed;
-      cost = spent_more (g.V.View.world c.args.view.now) (entity_named c.index-shown-i.result.subject) _ c.loop-i.places.items c.push_events.new.places.items _ _ _ pushed c.loop-i.invariant.cost c.in_ok-push_events.ensures.cost;
+      cost = spent_more (g.V.View.world c.args.view.now) (entity_named c.index-shown-i.result.subject) _ c.loop-i.places.items c.push_events.new.places.items _ _ _ pushed c.loop-i.invariant.cost c.push_events.ensures.cost;
     }
 
 pub returns-clause-places : goal.returns-clause-places
@@ -39,3 +39,16 @@ returns-clause-places g c =
     let end = c.loop-i.auto.i-end in
     let all : c.loop-i.i ≡ length c.args.shown.now = omega (arith, past, end) in
     places_all (g.V.View.world c.args.view.now) c.args.shown.now c.loop-i.i c.loop-i.places.items all c.loop-i.invariant.places
+
+pub returns-clause-cost : goal.returns-clause-cost
+returns-clause-cost g c =
+    let past = c.loop-i-test.false in
+    let end = c.loop-i.auto.i-end in
+    let all : c.loop-i.i ≡ length c.args.shown.now = omega (arith, past, end) in
+    let count = ap (λ l. length l) (places_all (g.V.View.world c.args.view.now) c.args.shown.now c.loop-i.i c.loop-i.places.items all c.loop-i.invariant.places) in
+    let spent = c.loop-i.invariant.cost in
+    omega (arith, count, spent)
+
+pub returns-in_err-push_events-clause-cost : goal.returns-in_err-push_events-clause-cost
+returns-in_err-push_events-clause-cost g c =
+    spent_within (g.V.View.world c.args.view.now) c.args.shown.now c.loop-i.i c.index-shown-i.result c.loop-i.places.items _ _ _ c.loop-i-test.true (sym c.index-shown-i.is) c.loop-i.invariant.places c.loop-i.invariant.cost c.push_events.ensures.cost

@@ -26,4 +26,5 @@ returns-clause-cost g c =
     let world = g.V.View.world c.args.view.now in
     let x = entity_named c.args.one.subject in
     let count = count_shown c.store-store.result.now contents world x c.history_of-history.result.now.updates c.args.one.span c.store-store.ensures c.history_of-history.ensures.tells c.requires.shows in
-    on_ok_weaker c.push_span.result (λ spent. omega (arith, spent, count)) c.push_span.ensures.cost
+    let spent = c.push_span.ensures.cost in
+    omega (arith, spent, count)

@@ -42,3 +42,11 @@ returns-clause-cost g c =
     let over = c.loop-i.auto.i-end order in
     let spent = c.loop-i.invariant.cost in
     omega (arith, over, spent)
+
+pub returns-in_err-push-clause-cost : goal.returns-in_err-push-clause-cost
+returns-in_err-push-clause-cost g c =
+    let spent = c.loop-i.invariant.cost in
+    let one = c.place_at.ensures.cost in
+    let low = c.loop-i.auto.i in
+    let lt = c.loop-i-test.true in
+    omega (arith, spent, one, low, lt)

@@ -5,7 +5,7 @@ use Rattle.graph_model.specs.Rising.{Rises}
 use Rattle.view_trait.specs.Coverage.{edge_count_on, edges_on, node_count_on, nodes_among, nodes_on}
 use Rattle.view_trait.proofs.Covered.{length-edges_on, length-nodes_on}
 use Rattle.view_trait.specs.Meaning.{StepsWithin}
-use Rattle.view_lists.proofs.Spent.{edge_more, no_edges, node_more}
+use Rattle.view_lists.proofs.Spent.{edge_more, edge_within, no_edges, node_more, node_within}
 use Rattle.view_lists.proofs.ShownOnes.{edges_all, edges_kept, found_on, nodes_all, nodes_kept}
 use Rattle.view_lists.proofs.listing.shown_by_number.Goals as goal
 
@@ -73,3 +73,21 @@ returns-clause-cost g c =
     let count : c.edge_count_on-j-end.result ≡ edge_count_on s r = c.edge_count_on-j-end.ensures ∙ ap (λ v. edge_count_on v r) c.store-store.ensures in
     let same : c.loop-j.j ≡ edge_count_on s r = (let over = c.loop-j.auto.j-end in let le = c.loop-j-test.false in omega (arith, over, le, count)) in
     subst (λ n. StepsWithin c.args.steps.now c.loop-j.steps (node_count_on s r * searches.nodes + n * searches.edges) (length s.accepted)) same c.loop-j.invariant.cost
+
+pub returns-in_err-push_node-clause-cost : goal.returns-in_err-push_node-clause-cost
+returns-in_err-push_node-clause-cost g c =
+    let s = g.V.View.contents c.args.view.now in
+    let r = c.args.roster in
+    let searches = g.V.View.searches c.args.view.now in
+    let count : c.node_count_on-i-end.result ≡ node_count_on s r = c.node_count_on-i-end.ensures ∙ ap (λ v. node_count_on v r) c.store-store.ensures in
+    let below : c.loop-i.i < node_count_on s r = (let lt = c.loop-i-test.true in omega (arith, lt, count)) in
+    node_within _ _ _ c.loop-i.i (node_count_on s r) searches.nodes (edge_count_on s r * searches.edges) _ below c.loop-i.invariant.cost c.push_node.ensures.cost
+
+pub returns-in_err-push_edge-clause-cost : goal.returns-in_err-push_edge-clause-cost
+returns-in_err-push_edge-clause-cost g c =
+    let s = g.V.View.contents c.args.view.now in
+    let r = c.args.roster in
+    let searches = g.V.View.searches c.args.view.now in
+    let count : c.edge_count_on-j-end.result ≡ edge_count_on s r = c.edge_count_on-j-end.ensures ∙ ap (λ v. edge_count_on v r) c.store-store.ensures in
+    let below : c.loop-j.j < edge_count_on s r = (let lt = c.loop-j-test.true in omega (arith, lt, count)) in
+    edge_within _ _ _ (node_count_on s r * searches.nodes) c.loop-j.j (edge_count_on s r) searches.edges _ below c.loop-j.invariant.cost c.push_edge.ensures.cost

@@ -48,7 +48,7 @@ loop-j-init g c =
       few = omega (arith, c.loop-i.invariant.few, c.loop-i.invariant.reach);
       cost =
           (let searches = g.V.View.searches c.args.view.now in
-          let d = digits (length s.accepted) + 1 in
+          let d = digits (length s.accepted) in
           let made : c.loop-i.steps ≤ c.args.steps.now + (node_count_on s r * searches.nodes) * d + 2 * node_count_on s r = subst (λ n. c.loop-i.steps ≤ c.args.steps.now + (n * searches.nodes) * d + 2 * n) all c.loop-i.invariant.cost in
           let none : (node_count_on s r * searches.nodes) * d ≡ (node_count_on s r * searches.nodes + 0 * searches.edges) * d = ap (λ n. n * d) (omega arith) in
           omega (arith, made, none));
@@ -91,7 +91,7 @@ returns-clause-cost g c =
     let s = g.V.View.contents c.args.view.now in
     let r = c.args.roster in
     let searches = g.V.View.searches c.args.view.now in
-    let d = digits (length s.accepted) + 1 in
+    let d = digits (length s.accepted) in
     let count : c.edge_count_on-j-end.result ≡ edge_count_on s r = c.edge_count_on-j-end.ensures ∙ ap (λ v. edge_count_on v r) c.store-store.ensures in
     let all : c.loop-j.j ≡ edge_count_on s r = omega (arith, count) in
     subst (λ n. c.loop-j.steps ≤ c.args.steps.now + (node_count_on s r * searches.nodes + n * searches.edges) * d + 2 * (node_count_on s r + n)) all c.loop-j.invariant.cost

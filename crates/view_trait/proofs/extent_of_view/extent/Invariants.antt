@@ -17,7 +17,7 @@ invariant-loop-i g l =
     record {
       reach : l.i ≤ 2 ^ 32;
       few : l.all.events ≤ most_events * l.i;
-      cost : l.steps ≤ l.fn.steps + (l.i * (g.V.View.searches l.fn.view).nodes) * (digits (length contents.accepted) + 1) + 2 * l.i;
+      cost : l.steps ≤ l.fn.steps + (l.i * (g.V.View.searches l.fn.view).nodes) * digits (length contents.accepted) + 2 * l.i;
       extent : IsExtent (flat_map (events_of world) (nodes_among contents (take l.i (nodes_on contents roster)))) l.all;
     }
 
@@ -30,6 +30,6 @@ invariant-loop-j g l =
     record {
       reach : l.j ≤ 2 ^ 32;
       few : l.all.events ≤ most_events * 2 ^ 32 + most_events * l.j;
-      cost : l.steps ≤ l.fn.steps + (node_count_on contents roster * (g.V.View.searches l.fn.view).nodes + l.j * (g.V.View.searches l.fn.view).edges) * (digits (length contents.accepted) + 1) + 2 * (node_count_on contents roster + l.j);
+      cost : l.steps ≤ l.fn.steps + (node_count_on contents roster * (g.V.View.searches l.fn.view).nodes + l.j * (g.V.View.searches l.fn.view).edges) * digits (length contents.accepted) + 2 * (node_count_on contents roster + l.j);
       extent : IsExtent (flat_map (events_of world) (nodes_among contents (nodes_on contents roster) ++ edges_among contents (take l.j (edges_on contents roster)))) l.all;
     }
