@@ -1,5 +1,5 @@
 -- The first and the last time of a world, and its windows.
-use Rattle.std.proofs.Common.{◌≡◌, ℤ, ◌≤ℤ◌, ◌<ℤ◌, List, [], ◌∷◌, Some, true, length, refl, sym, subst, ◌∙◌, ap}
+use Rattle.std.proofs.Common.{◌≡◌, ℤ, ◌≤ℤ◌, ◌<ℤ◌, List, [], ◌∷◌, Some, true, length, sym, subst, ◌∙◌, ap}
 use Rattle.std.specs.Prelude.{Result, Ok, Err, IfOk, IfErr}
 use Rattle.std.specs.List.{list_all}
 use Rattle.std.proofs.lemmas.Bool.{and_parts}
@@ -13,8 +13,7 @@ use Rattle.world_laws.proofs.Listed.{in_order_from_arranged}
 use Rattle.world_laws.proofs.Nested.{TimesRise}
 use Rattle.world_laws.proofs.Times.{inside_hi}
 use Rattle.world_laws.proofs.Windows.{TimesRise-in_order}
-use Rattle.view_trait.specs.declared.extent_of_view.WorldExtent.{WorldExtent}
-use Rattle.view_trait.specs.Extent.{extent_of, time_of_first, time_of_last}
+use Rattle.view_trait.specs.Extent.{time_of_first, time_of_last}
 use Rattle.view_trait.proofs.Extents.{IsExtent-rising}
 use Rattle.window_ends.specs.declared.ends.Ends.{Ends}
 use Rattle.window_ends.specs.declared.counting.TooMany.{TooMany}
@@ -42,17 +41,13 @@ spanned_by w each x xs lawful e =
       counted = count_of_windows w each x xs e;
     }
 
-spanned : (w : World) (each : Each) (xs : List Event) (first last : ℤ) → IsLawful w → w.events ≡ xs → time_of_first xs ≡ Some first → time_of_last xs ≡ Some last → IsSpanned w each first last
+-- where the first and the last time are known
+pub spanned : (w : World) (each : Each) (xs : List Event) (first last : ℤ) → IsLawful w → w.events ≡ xs → time_of_first xs ≡ Some first → time_of_last xs ≡ Some last → IsSpanned w each first last
 spanned w each [] first last lawful e f l = absurd (let no : ⊥ = cc in no)
 spanned w each (x ∷ xs) first last lawful e f l =
     let p : x.time ≡ first = cc in
     let q : last_time x.time xs ≡ last = cc in
     subst (λ (s : ℤ). IsSpanned w each s last) p (subst (λ (t : ℤ). IsSpanned w each x.time t) q (spanned_by w each x xs lawful e))
-
--- what a call finds of the extent of a world
-pub spanned_found : (w : World) (each : Each) (found : WorldExtent) (first last : ℤ) → IsLawful w → found ≡ extent_of w.events → found.first ≡ Some first → found.last ≡ Some last → IsSpanned w each first last
-spanned_found w each found first last lawful e f l =
-    spanned w each w.events first last lawful refl (sym (ap (λ (r : WorldExtent). r.first) e) ∙ f) (sym (ap (λ (r : WorldExtent). r.last) e) ∙ l)
 
 -- so the ends that are found are those of the windows of the world, and too many are as many as these
 pub ends_windows : (w : World) (each : Each) (first last : ℤ) (r : Result (List Ends) TooMany) → IsSpanned w each first last → IfOk r (λ ends. ends ≡ all_ends each first last) → IfOk r (λ ends. windows_at w ends ≡ windows w (Some each))

@@ -27,5 +27,5 @@ IsNextWindow before given after = (after.view ≡ before.view)
 -- the steps of a first and a last time at the most: each span is asked for once, and two times are read
 -- in it
 abbrev pub extent_steps : Contents → Searches → ℕ
-extent_steps c s = span_searches c Whole s * (digits (length c.accepted) + 1)
+extent_steps c s = span_searches c Whole s * digits (length c.accepted)
     + 2 * (length c.nodes + length c.edges)

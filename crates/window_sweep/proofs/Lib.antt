@@ -1,4 +1,5 @@
 pub mod Deleting
+pub mod Ends
 pub mod Filled
 pub mod Listing
 pub mod Shown

@@ -1,14 +1,16 @@
 //! The events of a view, held for a sweep.
 ghost use Rattle.std.specs.Prelude.{◌≡◌, ◌<◌, ◌≤◌, ◌+◌, ◌-◌, ◌*◌, ◌==◌, ◌&&◌, ◌∷◌, [], ◌++◌, false};
-ghost use Rattle.std.specs.Prelude.{length, IfOk, OnOk, if◌then◌else◌};
+ghost use Rattle.std.specs.Prelude.{List, length, IfOk, OnOk, if◌then◌else◌};
 ghost use Rattle.std.specs.List.{All, filter_map};
 ghost use Rattle.graph_model.specs.Entity.{is_deletion};
 ghost use Rattle.graph_model.specs.Searches.{digits};
-ghost use Rattle.graph_model.specs.World.{events_of};
+ghost use Rattle.graph_model.specs.World.{World, events_of};
+ghost use Rattle.graph_store.specs.Contents.{Contents};
 ghost use Rattle.view_trait.specs.Coverage.{Covers};
-ghost use Rattle.view_trait.specs.Extent.{span_searches};
+ghost use Rattle.view_trait.specs.Extent.{span_searches, time_of_first, time_of_last};
 ghost use Rattle.view_trait.specs.Meaning.{Shows, edge_at};
 ghost use Rattle.view_lists.specs.Listing.{IsShownEntity, IsPlaced, AreListed, entity_named, event_at};
+ghost use Rattle.view_lists.specs.declared.listing.ShownEntity.{ShownEntity};
 ghost use Rattle.window_sweep.specs.Filling.{node_held, edge_held, AreFilled};
 
 use event_sweep::HeldEvent;
@@ -21,11 +23,13 @@ use time_history::{History, Span};
 use view_lists::{EventPlace, ShownEntity, ShownEvents, Subject, list_places};
 use view_trait::{Roster, View};
 
-/// The events of nodes and those of edges, in the order of time.
+/// The events of nodes and those of edges, in the order of time, and the first and the last time.
 #[derive(Drop)]
 pub(crate) struct HeldEvents {
     pub nodes: Vec<HeldEvent>,
     pub edges: Vec<HeldEvent>,
+    pub first: Option<i64>,
+    pub last: Option<i64>,
 }
 
 /// The place in a history of an event of a span that is not carried.
@@ -80,6 +84,8 @@ fn hold<V: View>(
         ≡ held.old.nodes.items ++ filter_map (node_held shown.now) (place ∷ [])) }
     ensures edges { OnOk result (held.new.edges.items
         ≡ held.old.edges.items ++ filter_map (edge_held (V.world view.now) shown.now) (place ∷ [])) }
+    ensures first { held.new.first ≡ held.old.first }
+    ensures last { held.new.last ≡ held.old.last }
 {
     let one = shown[place.shown as usize];
     let time = place.time;
@@ -105,6 +111,24 @@ fn hold<V: View>(
     }
 }
 
+/// The time of the first event of a world, of which all events have places.
+fn first_of(places: &[EventPlace]) -> Option<i64>
+    ensures { (c : Contents) (w : World) (shown : List ShownEntity)
+        → AreListed c w shown places.now → result ≡ time_of_first w.events }
+{
+    let place = places.first()?;
+    Some(place.time)
+}
+
+/// The time of the last event of a world, of which all events have places.
+fn last_of(places: &[EventPlace]) -> Option<i64>
+    ensures { (c : Contents) (w : World) (shown : List ShownEntity)
+        → AreListed c w shown places.now → result ≡ time_of_last w.events }
+{
+    let place = places.last()?;
+    Some(place.time)
+}
+
 /// Holds the events at places.
 fn hold_all<V: View>(
     alloc: Global,
@@ -113,12 +137,16 @@ fn hold_all<V: View>(
     places: &[EventPlace],
 ) -> Result<HeldEvents, Memory>
     requires { AreListed (V.contents view.now) (V.world view.now) shown.now places.now }
-    ensures { IfOk result (λ held.
+    ensures filled { IfOk result (λ held.
         AreFilled (V.contents view.now) (V.world view.now) held.nodes.items held.edges.items) }
+    ensures first { IfOk result (λ held. held.first ≡ time_of_first (V.world view.now).events) }
+    ensures last { IfOk result (λ held. held.last ≡ time_of_last (V.world view.now).events) }
 {
     let mut held = HeldEvents {
         nodes: Vec::new(alloc),
         edges: Vec::new(alloc),
+        first: first_of(places),
+        last: last_of(places),
     };
     for place in places {
         hold(&mut held, view, shown, *place)?;
@@ -136,10 +164,12 @@ pub(crate) fn held_events<V: View, L: Ledger>(
     requires covers { Covers (V.contents view.now) (V.world view.now) roster }
     ensures filled { IfOk result (λ held.
         AreFilled (V.contents view.now) (V.world view.now) held.nodes.items held.edges.items) }
+    ensures first { IfOk result (λ held. held.first ≡ time_of_first (V.world view.now).events) }
+    ensures last { IfOk result (λ held. held.last ≡ time_of_last (V.world view.now).events) }
     ensures cost { let c = V.contents view.now in
         let searches = span_searches c roster.entry (V.searches view.now) in
-        OnOk result (steps.new ≤ steps.old + searches * (digits (length c.accepted) + 1)
-        + length (V.world view.now).events) }
+        steps.new ≤ steps.old + searches * digits (length c.accepted)
+        + length (V.world view.now).events }
 {
     let listed: ShownEvents<'_> = list_places(alloc, view, roster, steps)?;
     hold_all(

@@ -6,7 +6,7 @@ ghost use Rattle.graph_model.specs.World.{World, IsLawful};
 ghost use Rattle.graph_model.specs.declared.events.Model.TheVariants.{Event as Instants};
 ghost use Rattle.graph_store.specs.Contents.{Contents};
 ghost use Rattle.view_trait.specs.Coverage.{Covers, node_count_on, edge_count_on};
-ghost use Rattle.view_trait.specs.Extent.{span_searches};
+ghost use Rattle.view_trait.specs.Extent.{span_searches, time_of_first, time_of_last};
 ghost use Rattle.window_sweep.specs.WindowSwept.{IsOver, AreOn};
 
 use crate::filling::held_events;
@@ -26,6 +26,8 @@ pub struct WindowSweep {
     edges: EventSweep,
     node_list: NodeList,
     edge_list: EdgeList,
+    first: Option<i64>,
+    last: Option<i64>,
 }
 
 impl Model for WindowSweep {
@@ -33,7 +35,7 @@ impl Model for WindowSweep {
 
     ghost Value = { WindowSwept };
 
-    ghost view = { λ s. record { nodes = s.nodes; edges = s.edges; node_list = s.node_list; edge_list = s.edge_list } };
+    ghost view = { λ s. record { nodes = s.nodes; edges = s.edges; node_list = s.node_list; edge_list = s.edge_list; first = s.first; last = s.last } };
 }
 
 impl WindowSweep {
@@ -49,8 +51,8 @@ impl WindowSweep {
         ensures over { IfOk result (λ sweep. IsOver (V.contents view.now) (V.world view.now) sweep) }
         ensures cost { let c = V.contents view.now in
             let searches = span_searches c roster.entry (V.searches view.now) in
-            OnOk result (steps.new ≤ steps.old + searches * (digits (length c.accepted) + 1)
-            + length (V.world view.now).events) }
+            steps.new ≤ steps.old + searches * digits (length c.accepted)
+            + length (V.world view.now).events }
     {
         let lasts = matches!(view.store().model(), GraphModel::Persistent);
         let held = held_events(alloc, view, roster, steps)?;
@@ -59,7 +61,25 @@ impl WindowSweep {
             edges: EventSweep::new(alloc, lasts, held.edges),
             node_list: NodeList::new(alloc),
             edge_list: EdgeList::new(alloc),
+            first: held.first,
+            last: held.last,
         })
+    }
+
+    /// The time of the first event of the view. It reads no stored time.
+    pub fn first_time(&self) -> Option<i64>
+        ensures { (c : Contents) (w : World)
+            → IsOver c w self.now → result ≡ time_of_first w.events }
+    {
+        self.first
+    }
+
+    /// The time of the last event of the view. It reads no stored time.
+    pub fn last_time(&self) -> Option<i64>
+        ensures { (c : Contents) (w : World)
+            → IsOver c w self.now → result ≡ time_of_last w.events }
+    {
+        self.last
     }
 
     /// Goes to the window from `from` up to but not including `to`. Any window may be gone to. It

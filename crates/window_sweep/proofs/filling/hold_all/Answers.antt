@@ -24,10 +24,12 @@ loop-place-preserved g c =
     record {
       nodes = one_more (node_held c.args.shown.now) places i d c.loop-place.held.nodes.items c.hold.new.held.nodes.items c.loop-place-test.true c.loop-place.invariant.nodes c.in_ok-hold.ensures.nodes;
       edges = one_more (edge_held (g.V.View.world c.args.view.now) c.args.shown.now) places i d c.loop-place.held.edges.items c.hold.new.held.edges.items c.loop-place-test.true c.loop-place.invariant.edges c.in_ok-hold.ensures.edges;
+      first = c.hold.ensures.first ∙ c.loop-place.invariant.first;
+      last = c.hold.ensures.last ∙ c.loop-place.invariant.last;
     }
 
-pub returns : goal.returns
-returns g c =
+pub returns-clause-filled : goal.returns-clause-filled
+returns-clause-filled g c =
     let contents = g.V.View.contents c.args.view.now in
     let w = g.V.View.world c.args.view.now in
     let xs = c.args.shown.now in
@@ -42,3 +44,14 @@ returns g c =
     subst (λ l. AreFilled contents w l c.loop-place.held.edges.items) (sym nodes)
     (subst (AreFilled contents w (filter_map (node_held xs) places)) (sym edges)
     (are_filled contents w xs places (g.met.V.View.shown c.args.view.now) c.requires))
+
+pub loop-place-init : goal.loop-place-init
+loop-place-init g c =
+    let contents = g.V.View.contents c.args.view.now in
+    let w = g.V.View.world c.args.view.now in
+    record {
+      nodes = c.new.ensures.items;
+      edges = c.new-2.ensures.items;
+      first = c.first_of.ensures contents w c.args.shown.now c.requires;
+      last = c.last_of.ensures contents w c.args.shown.now c.requires;
+    }

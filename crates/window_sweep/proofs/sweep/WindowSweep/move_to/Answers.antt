@@ -33,8 +33,8 @@ edges c is =
 pub returns-clause-covers : goal.returns-clause-covers
 returns-clause-covers c =
     let s = c.self.inside in
-    let old : WindowSwept = record { nodes = s.nodes; edges = s.edges; node_list = s.node_list; edge_list = s.edge_list } in
-    let new : WindowSwept = record { nodes = c.move_to.new.self; edges = c.move_to-2.new.self; node_list = c.refill.new.self; edge_list = c.refill-2.new.self } in
+    let old : WindowSwept = record { nodes = s.nodes; edges = s.edges; node_list = s.node_list; edge_list = s.edge_list; first = s.first; last = s.last } in
+    let new : WindowSwept = record { nodes = c.move_to.new.self; edges = c.move_to-2.new.self; node_list = c.refill.new.self; edge_list = c.refill-2.new.self; first = s.first; last = s.last } in
     on_ok_weaker c.refill-2.result (λ is.
     subst (λ (v : WindowSwept). (t : Contents) (w : World) → IsLawful w → IsOver t w v → AreOn t (window w c.args.from c.args.to) new) c.self.view_is
     (λ t w lawful over. all_on t w lawful c.args.from c.args.to old new over (nodes c) (edges c is)))
@@ -43,8 +43,8 @@ returns-clause-covers c =
 pub returns-clause-few : goal.returns-clause-few
 returns-clause-few c =
     let s = c.self.inside in
-    let old : WindowSwept = record { nodes = s.nodes; edges = s.edges; node_list = s.node_list; edge_list = s.edge_list } in
-    let new : WindowSwept = record { nodes = c.move_to.new.self; edges = c.move_to-2.new.self; node_list = c.refill.new.self; edge_list = c.refill-2.new.self } in
+    let old : WindowSwept = record { nodes = s.nodes; edges = s.edges; node_list = s.node_list; edge_list = s.edge_list; first = s.first; last = s.last } in
+    let new : WindowSwept = record { nodes = c.move_to.new.self; edges = c.move_to-2.new.self; node_list = c.refill.new.self; edge_list = c.refill-2.new.self; first = s.first; last = s.last } in
     on_ok_weaker c.refill-2.result (λ is.
     subst (λ (v : WindowSwept). (t : Contents) (w : World) → IsLawful w → w.model ≡ Instants → IsOver t w v → length new.node_list + length new.edge_list ≤ length (window w c.args.from c.args.to).events) c.self.view_is
     (λ t w lawful model over. few_on t w lawful c.args.from c.args.to old new over (nodes c) (edges c is) model))
