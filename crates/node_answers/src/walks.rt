@@ -50,20 +50,22 @@ impl StoreRow for Part {
 }
 
 /// Adds the part of the world of a view: how far the nodes are to which walks lead from a node in a
-/// direction. None leads from an unknown one.
+/// direction. None leads from an unknown one. They are the same for every roster that covers the view.
 pub fn add_hops<V: View, L: Ledger>(
     alloc: Global,
     out: &mut RowWriter,
     view: &V,
+    roster: Roster<'_>,
     node: &Name,
     direction: Direction,
     steps: &mut Steps<L>,
 ) -> Result<(), Memory>
+    requires covers { Covers (V.contents view.now) (V.world view.now) roster }
     ensures { OnOk result (AddsPart (V.world view.now) (Hops node.now direction) out.old out.new) }
 {
     match view.store().node_of(node) {
         Some(n) => {
-            let rows = hops(alloc, view, n, direction, steps)?;
+            let rows = hops(alloc, view, roster, n, direction, steps)?;
             add_rows(out, view.bounds(), view.store(), rows.as_slice())
         }
         None => add_world(out, view.bounds(), 0),
@@ -71,19 +73,21 @@ pub fn add_hops<V: View, L: Ledger>(
 }
 
 /// Adds the part of the world of a view: the other nodes to which walks lead from a node. None leads
-/// from an unknown one.
+/// from an unknown one. They are the same for every roster that covers the view.
 pub fn add_out_component<V: View, L: Ledger>(
     alloc: Global,
     out: &mut RowWriter,
     view: &V,
+    roster: Roster<'_>,
     node: &Name,
     steps: &mut Steps<L>,
 ) -> Result<(), Memory>
+    requires covers { Covers (V.contents view.now) (V.world view.now) roster }
     ensures { OnOk result (AddsPart (V.world view.now) (OutComponent node.now) out.old out.new) }
 {
     match view.store().node_of(node) {
         Some(n) => {
-            let rows = out_component(alloc, view, n, steps)?;
+            let rows = out_component(alloc, view, roster, n, steps)?;
             add_names(out, view.bounds(), view.store(), &rows)
         }
         None => add_world(out, view.bounds(), 0),
@@ -91,19 +95,21 @@ pub fn add_out_component<V: View, L: Ledger>(
 }
 
 /// Adds the part of the world of a view: the other nodes from which walks lead to a node. None leads
-/// to an unknown one.
+/// to an unknown one. They are the same for every roster that covers the view.
 pub fn add_in_component<V: View, L: Ledger>(
     alloc: Global,
     out: &mut RowWriter,
     view: &V,
+    roster: Roster<'_>,
     node: &Name,
     steps: &mut Steps<L>,
 ) -> Result<(), Memory>
+    requires covers { Covers (V.contents view.now) (V.world view.now) roster }
     ensures { OnOk result (AddsPart (V.world view.now) (InComponent node.now) out.old out.new) }
 {
     match view.store().node_of(node) {
         Some(n) => {
-            let rows = in_component(alloc, view, n, steps)?;
+            let rows = in_component(alloc, view, roster, n, steps)?;
             add_names(out, view.bounds(), view.store(), &rows)
         }
         None => add_world(out, view.bounds(), 0),

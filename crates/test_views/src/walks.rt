@@ -95,7 +95,7 @@ fn walk_of<L: Ledger>(
     let (from, to, start, direction, wanted) = *walk;
     assert!(rt; start < graph.store.nodes());
     let view = window(graph, i64::from(from), i64::from(to));
-    let rows = hops(alloc, &view, NodeId(start), direction, steps)?;
+    let rows = hops(alloc, &view, Roster::All, NodeId(start), direction, steps)?;
     assert_eq!(rt; rows.len(), wanted.len());
     for (i, hop) in wanted.iter().enumerate() {
         if i < rows.len() {
@@ -128,12 +128,12 @@ fn components_of<L: Ledger>(
     let view = window(graph, i64::from(from), i64::from(to));
     nodes_are(
         rt,
-        &out_component(alloc, &view, NodeId(node), steps)?,
+        &out_component(alloc, &view, Roster::All, NodeId(node), steps)?,
         outward,
     );
     nodes_are(
         rt,
-        &in_component(alloc, &view, NodeId(node), steps)?,
+        &in_component(alloc, &view, Roster::All, NodeId(node), steps)?,
         inward,
     );
     Ok(())

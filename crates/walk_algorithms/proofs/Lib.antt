@@ -4,4 +4,5 @@ pub mod Paired
 pub mod Rows
 pub mod Visits
 pub mod Walked
+pub mod Led
 pub mod JoinedPlaces

@@ -1,6 +1,9 @@
 -- A walk over what a view shows goes on from one node after another, and its marks are distances.
-use Rattle.std.proofs.Common.{◌≡◌, ℕ, ◌+◌, ◌<◌, ◌≤◌, List, Some, length, sym, subst, arith}
-use Rattle.std.specs.Prelude.{slice_get}
+use Rattle.std.proofs.Common.{◌≡◌, ℕ, ◌+◌, ◌<◌, ◌≤◌, List, Some, length, sym, ◌∙◌, subst, inl, inr, arith}
+use Rattle.std.specs.Prelude.{slice_get, ◌==◌}
+use Rattle.std.proofs.lemmas.Bool.{cases_Bool, eq-eqb, eqb-true, true≢false}
+use Rattle.std.proofs.lemmas.List.{get_or_default}
+use Rattle.std.proofs.lemmas.List.Elements.{All-get_or}
 use Rattle.graph_model.specs.declared.queries.Direction.{Direction}
 use Rattle.graph_model.specs.World.{World}
 use Rattle.graph_store.specs.Contents.{Contents}
@@ -10,10 +13,11 @@ use Rattle.node_visits.specs.declared.visited.Visit.{Visit}
 use Rattle.node_visits.specs.Visits.{AreVisits, node_in, mark_in, all_visited}
 use Rattle.node_visits.specs.Levels.{IsWalking}
 use Rattle.node_visits.proofs.Levels.{walk_goes_on}
+use Rattle.node_visits.proofs.Visiting.{Has, IsMore, has_all, has_still, more_all}
 use Rattle.walk_laws.specs.Distances.{AreDistances}
 use Rattle.walk_laws.specs.Numbers.{AreNumbers}
 use Rattle.walk_laws.specs.Steps.{Next, Far}
-use Rattle.walk_laws.proofs.Steps.{far_on, more_next, has_next}
+use Rattle.walk_laws.proofs.Steps.{far_on}
 use Rattle.walk_laws.proofs.Reached.{distances}
 use Rattle.walk_algorithms.specs.Visits.{VisitsNeighbours}
 use Rattle.walk_algorithms.proofs.Visits.{is_at}
@@ -26,12 +30,20 @@ module _ (c : Contents) (w : World) (d : Direction) (shown : IsShown c w) (start
   settle_at : (i : ℕ) (before after : List Visit) → i < length before → IsWalking (Next w c.nodes d) (Far w c.nodes d start) start before i → VisitsNeighbours c w d (node_in before i) (mark_in before i + 1) before after
       → IsWalking (Next w c.nodes d) (Far w c.nodes d start) start after (i + 1)
   settle_at i before after lt h r =
-      let numbers = shown_numbers c w shown in
-      let mark = mark_in before i + 1 in
       subst (λ vs. IsWalking (Next w c.nodes d) (Far w c.nodes d start) start vs (i + 1)) (sym r.2)
-      (walk_goes_on (Next w c.nodes d) (Far w c.nodes d start) (far_on w c.nodes d start) start before (all_visited mark r.0 before) i h lt
-      (more_next w c.nodes d numbers (node_in before i) r.0 r.1.within r.1.exactly mark before)
-      (has_next w c.nodes d numbers (node_in before i) r.0 r.1.within r.1.exactly mark before))
+      (walk_goes_on (Next w c.nodes d) (Far w c.nodes d start) (far_on w c.nodes d start) start before (all_visited (mark_in before i + 1) r.0 before) i h lt more all)
+    where
+      more : IsMore (Next w c.nodes d (node_in before i)) (mark_in before i + 1) before (all_visited (mark_in before i + 1) r.0 before)
+      more = more_all (Next w c.nodes d (node_in before i)) (mark_in before i + 1) r.0 before (λ j below. All-get_or (Next w c.nodes d (node_in before i)) r.0 j 0 below r.1.each)
+
+      -- the node itself was visited before
+      all : (b : ℕ) → Next w c.nodes d (node_in before i) b → Has (all_visited (mark_in before i + 1) r.0 before) b
+      all b next = elim (cases_Bool (b == node_in before i)) [
+        | inl e ↦ has_still (Next w c.nodes d (node_in before i)) (mark_in before i + 1) before (all_visited (mark_in before i + 1) r.0 before) b more (record { place = i; below = lt; is = sym (eqb-true b (node_in before i) e) })
+        | inr e ↦
+            let k = r.1.others b next (λ same. true≢false (sym (eq-eqb b (node_in before i) same) ∙ e)) in
+            subst (Has (all_visited (mark_in before i + 1) r.0 before)) (get_or_default r.0 k.0 0 b k.1 ∙ k.2) (has_all (mark_in before i + 1) r.0 before k.0 k.1)
+      ]
 
   -- the walk goes on from one more node
   pub settle : (i : ℕ) (before after : List Visit) (v : Visit) → slice_get before i ≡ Some v → i < length before → IsWalking (Next w c.nodes d) (Far w c.nodes d start) start before i → VisitsNeighbours c w d v.node (v.mark + 1) before after

@@ -7,6 +7,7 @@ mod degree_rows;
 mod hop_rows;
 mod labels;
 mod link_ways;
+mod source;
 mod walk;
 mod ways;
 

@@ -1,4 +1,4 @@
-use Rattle.std.proofs.Common.{◌∙◌, ap, length, map, sym}
+use Rattle.std.proofs.Common.{ap, length, map, sym}
 use Rattle.std.proofs.lemmas.List.{length-map}
 use Rattle.graph_model.specs.declared.queries.Ask.TheVariants.{Core as CoreOf}
 use Rattle.graph_store.specs.Contents.{Contents}

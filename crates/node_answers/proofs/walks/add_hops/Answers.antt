@@ -4,7 +4,7 @@ use Rattle.std.proofs.lemmas.List.{length-map}
 use Rattle.graph_model.specs.Answer.{IsAnswer}
 use Rattle.graph_model.specs.Names.{same_name}
 use Rattle.graph_model.specs.declared.queries.Ask.TheVariants.{Hops}
-use Rattle.graph_store.specs.Contents.{Contents, name_at}
+use Rattle.graph_store.specs.Contents.{Contents}
 use Rattle.walk_algorithms.specs.WalkRows.{hop_row_of}
 use Rattle.answer_parts.proofs.Plainly.{answer_added, nothing_added}
 use Rattle.node_answers.proofs.UnknownNode.{named_at, unknown_absent}

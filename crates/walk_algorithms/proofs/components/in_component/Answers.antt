@@ -27,9 +27,9 @@ returns-clause-known g c =
     let start = c.args.start.0 in
     IfOk-weaker c.component.result _ _ (λ nodes r. subst (All (λ n. n < length s.nodes)) (sym r.3) (others_known (length s.nodes) start r.0 r.1.different)) c.component.ensures
 
-pub returns-then-not-node_present-clause-rows : goal.returns-then-not-node_present-clause-rows
-returns-then-not-node_present-clause-rows g c =
+pub returns-then-not-is_present-clause-rows : goal.returns-then-not-is_present-clause-rows
+returns-then-not-is_present-clause-rows g c =
     let s = g.V.View.contents c.args.view.now in
     let w = g.V.View.world c.args.view.now in
     let name = name_at s.nodes c.args.start.0 in
-    subst (λ nodes. AreTheFacts w (InComponent name) (map (node_row_of s) nodes)) (sym (c.from_vec.ensures ∙ c.new.ensures.items)) (no_in w name (sym c.node_present.ensures ∙ c.if-not-node_present.true))
+    subst (λ nodes. AreTheFacts w (InComponent name) (map (node_row_of s) nodes)) (sym (c.from_vec.ensures ∙ c.new.ensures.items)) (no_in w name (sym c.is_present.ensures ∙ c.if-not-is_present.true))
