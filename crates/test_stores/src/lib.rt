@@ -1,5 +1,5 @@
-//! Stores that take and refuse events and types, and what they keep these in, as tests: they stand apart,
-//! so that a change of a test proves nothing else again.
+//! Stores that take and refuse events and types, what they keep these in, and timelines, as tests: they
+//! stand apart, so that a change of a test proves nothing else again.
 #![tactic(auto)]
 
 #[cfg(test)]
@@ -12,5 +12,7 @@ mod linked_lists;
 mod names;
 #[cfg(test)]
 mod numbered_names;
+#[cfg(test)]
+mod timelines;
 #[cfg(test)]
 mod types;
