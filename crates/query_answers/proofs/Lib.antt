@@ -1,2 +1,3 @@
 pub mod QueryBlocks
 pub mod QueryCosts
+pub mod SweepCosts

@@ -1,5 +1,6 @@
 // The block of a query about a view.
-ghost use Rattle.std.specs.Prelude.{◌≡◌, ◌∷◌, ◌≤◌, [], length, None, true, IfErr, IsTrue, OnOk};
+ghost use Rattle.std.specs.Prelude.{◌≡◌, ◌∷◌, ◌≤◌, ◌+◌, [], length, None, true};
+ghost use Rattle.std.specs.Prelude.{IfErr, IsTrue, OnOk};
 ghost use Rattle.std.specs.Option.{option_map_or};
 ghost use Rattle.graph_model.specs.Limits.{most_windows};
 ghost use Rattle.graph_model.specs.Range.{each_in_range};
@@ -7,6 +8,7 @@ ghost use Rattle.graph_model.specs.Windows.{windows};
 ghost use Rattle.view_trait.specs.declared.rosters.Roster.TheVariants.{All as Whole};
 ghost use Rattle.query_answers.specs.Asks.{IsPaid, is_asked};
 ghost use Rattle.query_answers.specs.Blocks.{AddsBlock};
+ghost use Rattle.query_answers.specs.Cost.{is_counted_each, sweep_steps};
 ghost use Rattle.query_answers.specs.Refusing.{AreTooMany};
 
 use crate::answer_fault::AnswerFault;
@@ -60,6 +62,10 @@ pub fn add_block<V: View, L: Ledger>(
         IfErr result (λ fault. AreTooMany worlds fault) }
     ensures cost { let c = V.contents view.now in query.now.each ≡ None
         → IsPaid c Whole (V.world view.now) (V.searches view.now) query.now.ask steps.old steps.new }
+    ensures windows_cost { let w = V.world view.now in
+        let worlds = windows w query.now.each in
+        IsTrue (is_counted_each w.model query.now)
+        → steps.new ≤ steps.old + sweep_steps (V.contents view.now) w (V.searches view.now) worlds }
 {
     match query.each {
         None => Ok(add_world(alloc, out, view, &query.ask, line, steps)?),

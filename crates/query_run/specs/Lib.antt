@@ -1,3 +1,4 @@
+pub mod Arrival
 pub mod Causes
 pub mod Cost
 pub mod Blocks

@@ -29,7 +29,7 @@ pub fn add_events<V: View, L: Ledger>(
     ensures cost { let c = V.contents view.now in
         let searches = span_searches c roster.entry (V.searches view.now) in
         let readings = 2 * (node_count_on c roster.entry + edge_count_on c roster.entry) in
-        steps.new ≤ steps.old + searches * (digits (length c.accepted) + 1) + readings }
+        steps.new ≤ steps.old + searches * digits (length c.accepted) + readings }
 {
     let shown = extent(view, roster, steps);
     add_world(out, view.bounds(), 1)?;

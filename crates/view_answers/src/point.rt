@@ -6,6 +6,7 @@ ghost use Rattle.graph_model.specs.Presence.{alive_at as is_alive_at};
 ghost use Rattle.graph_model.specs.World.{events_of};
 ghost use Rattle.graph_store.specs.Keys.{key_name};
 ghost use Rattle.view_trait.specs.Meaning.{StepsWithin, edge_at, edge_named, node_at};
+ghost use Rattle.view_answers.specs.Costs.{ReadsWithin};
 ghost use Rattle.view_answers.specs.Point.{IsKnownAsk, IsPointAnswer, IsValueAnswer, searches_of};
 
 use graph_model::Value;
@@ -74,7 +75,7 @@ fn edge_value<'v, V: View, L: Ledger>(
 pub fn edge_alive<V: View, L: Ledger>(view: &V, e: EdgeId, m: i64, steps: &mut Steps<L>) -> bool
     requires { e.0 < length (V.contents view.now).edges }
     ensures alive { result ≡ is_alive_at (V.world view.now) (edge_named (V.contents view.now) e.0) m }
-    ensures cost { StepsWithin steps.old steps.new ((V.searches view.now).edges + 1) (length (V.contents view.now).accepted) }
+    ensures cost { ReadsWithin steps.old steps.new ((V.searches view.now).edges + 1) (length (V.contents view.now).accepted) }
 {
     let store = view.store();
     let span = view.edge_span(e, steps);
@@ -101,7 +102,7 @@ pub fn answer_point<'v, V: View, L: Ledger>(
 ) -> PointAnswer<'v>
     requires { IsKnownAsk (V.contents view.now) ask }
     ensures answer { IsPointAnswer (V.contents view.now) (V.world view.now) ask result }
-    ensures cost { StepsWithin steps.old steps.new (searches_of (V.searches view.now) ask) (length (V.contents view.now).accepted) }
+    ensures cost { ReadsWithin steps.old steps.new (searches_of (V.searches view.now) ask) (length (V.contents view.now).accepted) }
 {
     match ask {
         PointAsk::NodeValue(n, key) => value_answer(node_value(view, n, key, steps)),

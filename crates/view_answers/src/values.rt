@@ -11,7 +11,7 @@ ghost use Rattle.graph_model.specs.declared.events.Entity.TheVariants.{Node, Edg
 ghost use Rattle.graph_model.specs.declared.queries.Ask.TheVariants.{NodeValue, EdgeValue, EdgeAlive};
 ghost use Rattle.view_trait.specs.Meaning.{StepsWithin, knows};
 ghost use Rattle.answer_parts.specs.WorldPart.{part_rows};
-ghost use Rattle.view_answers.specs.Costs.{known_searches};
+ghost use Rattle.view_answers.specs.Costs.{ReadsWithin, known_searches};
 
 use crate::answer_rows::{add_alive, add_value};
 use crate::point::edge_alive;
@@ -62,7 +62,7 @@ fn value_of_edge<'v, V: View, L: Ledger>(
 /// Whether an edge is alive at a moment, by its name. An unknown one never is.
 fn alive_edge<V: View, L: Ledger>(view: &V, edge: &EdgeName, m: i64, steps: &mut Steps<L>) -> bool
     ensures alive { result ≡ is_alive_at (V.world view.now) edge.now m }
-    ensures cost { StepsWithin steps.old steps.new (known_searches (knows (V.contents view.now)) (V.searches view.now) (EdgeAlive edge.now m)) (length (V.contents view.now).accepted) }
+    ensures cost { ReadsWithin steps.old steps.new (known_searches (knows (V.contents view.now)) (V.searches view.now) (EdgeAlive edge.now m)) (length (V.contents view.now).accepted) }
 {
     match view.store().edge_of(edge) {
         Some(e) => edge_alive(view, e, m, steps),
@@ -129,7 +129,7 @@ pub fn add_edge_alive<V: View, L: Ledger>(
     steps: &mut Steps<L>,
 ) -> Result<(), Memory>
     ensures rows { OnOk result (out.new ≡ out.old ++ rows_text (part_rows (V.world view.now) (AliveRow (is_alive_at (V.world view.now) edge.now m) ∷ []))) }
-    ensures cost { StepsWithin steps.old steps.new (known_searches (knows (V.contents view.now)) (V.searches view.now) (EdgeAlive edge.now m)) (length (V.contents view.now).accepted) }
+    ensures cost { ReadsWithin steps.old steps.new (known_searches (knows (V.contents view.now)) (V.searches view.now) (EdgeAlive edge.now m)) (length (V.contents view.now).accepted) }
 {
     let alive = alive_edge(view, edge, m, steps);
     add_world(out, view.bounds(), 1)?;
