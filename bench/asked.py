@@ -52,19 +52,23 @@ def took(model, events, query, work):
     return min(runs)
 
 
-def tell(asked, models=("event",), count=None):
-    """Prints, for each kind of graph of `bench/load` and each model, what each of some named queries adds to loading."""
+def tell(asked, models=("event",), count=None, orders=("in time",)):
+    """Prints, for each kind of graph of `bench/load`, each model and each order of the records, what each of some named
+    queries adds to loading."""
     count = count or (int(sys.argv[1]) if len(sys.argv) > 1 else 1000000)
     os.system("%s --help 2>/dev/null" % os.path.join(LOAD.ROOT, "query"))
     with tempfile.TemporaryDirectory() as work:
         events = os.path.join(work, "events.csv")
         for kind in ("contacts", "random"):
-            for model in models:
-                lines = LOAD.records(kind, count)
-                with open(events, "w") as file:
-                    file.writelines(deleted_later(lines, count) if model == "persistent" else lines)
+            for model, order in ((model, order) for model in models for order in orders):
+                if model == "event":
+                    LOAD.write_records(events, kind, count, order)
+                else:
+                    with open(events, "w") as file:
+                        file.writelines(deleted_later(LOAD.ordered(LOAD.records(kind, count), order), count))
                 alone, memory = took(model, events, "", work)
-                print("%-8s %-10s %8d edges loaded: %.2f s, %.0f MB" % (kind, model, count, alone, memory / 1e6), flush=True)
+                print("%-8s %-10s %8d edges %s loaded: %.2f s, %.0f MB"
+                      % (kind, model, count, order, alone, memory / 1e6), flush=True)
                 for name, query in asked(count):
                     seconds, peak = took(model, events, query + "\n", work)
                     print("  %-44s %+7.2f s, %6.3f of the loading, %+6.0f MB"
