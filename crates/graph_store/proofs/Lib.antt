@@ -15,6 +15,8 @@ pub mod Readers
 pub mod JudgeLaws
 mod TakeNode
 pub mod EdgeNames
+mod FiledNumbers
+pub mod NumbersStay
 mod EdgeNumbers
 mod InLayer
 mod RoomLaws

@@ -10,6 +10,7 @@ pub mod Telling
 pub mod Histories
 pub mod TypeIndex
 pub mod Contents
+pub mod FiledAs
 pub mod Indexed
 pub mod Lawful
 pub mod StoreInvariant
@@ -17,3 +18,4 @@ pub mod Refusals
 pub mod WithUpdate
 pub mod WithEvent
 pub mod WithType
+pub mod KeepsNumbers

@@ -1,5 +1,5 @@
 //! Updates, filed in the histories of numbered entities.
-ghost use Rattle.std.specs.Prelude.{◌≡◌, ℕ, ◌+◌, ◌-◌, ◌^◌, ◌<◌, ◌≤◌, [], ◌∷◌, ◌++◌, false, position, length, map, vec_len, slice_set, OnOk, OnErr};
+ghost use Rattle.std.specs.Prelude.{◌≡◌, ℕ, ◌+◌, ◌-◌, ◌^◌, ◌<◌, ◌≤◌, [], ◌∷◌, ◌++◌, false, position, length, map, vec_len, slice_set, IfOk, OnOk, OnErr};
 ghost use Rattle.std.specs.List.{All, list_any};
 ghost use Rattle.std.specs.Vec.{vec_capacity};
 ghost use Rattle.indexmap.specs.IndexSet.{insert_key};
@@ -14,6 +14,7 @@ ghost use Rattle.graph_store.specs.EdgeParts.{parts_at};
 ghost use Rattle.graph_store.specs.Contents.{edge_entities};
 ghost use Rattle.graph_model.specs.Entity.{same_entity};
 ghost use Rattle.graph_model.specs.declared.events.Entity.TheVariants.{Edge as EdgeNamed};
+ghost use Rattle.graph_store.specs.FiledAs.{IsNumberOf, IsEdgeNumber};
 ghost use Rattle.graph_store.specs.WithUpdate.{with_update, with_ends, with_end_histories, HasEdge, ArrivesNext};
 
 use crate::edges::EdgeTable;
@@ -141,7 +142,8 @@ fn reserve_edge(
     edge_histories.reserve(1)
 }
 
-/// Places an update of a node, which is new or known, in the history of the node.
+/// Places an update of a node, which is new or known, in the history of the node. It answers the node's
+/// number.
 pub fn file_node<L: Ledger>(
     alloc: Global,
     nodes: &mut NameTable,
@@ -150,7 +152,7 @@ pub fn file_node<L: Ledger>(
     name: Name,
     update: Update,
     steps: &mut Steps<L>,
-) -> Result<(), Memory>
+) -> Result<u32, Memory>
     requires linked { links.old.nodes ≡ length nodes.old.names }
     requires lengths { vec_len histories.old ≡ length nodes.old.names }
     requires few { length (insert_key same_name nodes.old.names name) ≤ nodes.old.limit }
@@ -163,6 +165,7 @@ pub fn file_node<L: Ledger>(
     ensures pairs { links.new.pairs ≡ links.old.pairs }
     ensures linked { links.new.nodes ≡ length nodes.new.names }
     ensures names { OnOk result (nodes.new.names ≡ insert_key same_name nodes.old.names name) }
+    ensures number { IfOk result (IsNumberOf nodes.new.names name) }
     ensures filed { let found = position (same_name name) nodes.old.names in
         OnOk result (updates_in histories.new.items
         ≡ with_update found update (updates_in histories.old.items)) }
@@ -172,17 +175,18 @@ pub fn file_node<L: Ledger>(
     ensures cost { steps.new ≤ steps.old + (digits update.arrival + 1) }
 {
     if let Some(node) = nodes.find(&name) {
-        return file_update(histories, node, update, steps);
+        file_update(histories, node, update, steps)?;
+        return Ok(node);
     }
     reserve_nodes(nodes, links, histories, 1, 0)?;
     begin_history(alloc, histories, update, steps)?;
-    let _ = add_name(nodes, name);
+    let node = add_name(nodes, name);
     links.add_node();
-    Ok(())
+    Ok(node)
 }
 
 /// Places an update of an edge, which is new or known, in the history of the edge. A new edge names
-/// its nodes and its layer, which are new or known.
+/// its nodes and its layer, which are new or known. It answers the edge's number.
 pub fn file_edge<L: Ledger>(
     alloc: Global,
     nodes: &mut NameTable,
@@ -193,7 +197,7 @@ pub fn file_edge<L: Ledger>(
     edge: EdgeName,
     update: Update,
     steps: &mut Steps<L>,
-) -> Result<(), Memory>
+) -> Result<u32, Memory>
     requires linked { links.old.nodes ≡ length nodes.old.names }
     requires few { length (with_ends nodes.old.names edge) ≤ nodes.old.limit }
     requires fewer { length nodes.old.names < 2 ^ 32 - 2 }
@@ -220,6 +224,8 @@ pub fn file_edge<L: Ledger>(
     ensures edges { let found = position (same_entity (EdgeNamed edge))
         (edge_entities nodes.old.names layers.old.names links.old.edges) in
         OnOk result (HasEdge found nodes.new.names layers.new.names edge links.old links.new) }
+    ensures number { IfOk result
+        (IsEdgeNumber nodes.new.names layers.new.names links.new.edges edge) }
     ensures filed { let found = position (same_entity (EdgeNamed edge))
         (edge_entities nodes.old.names layers.old.names links.old.edges) in
         OnOk result (updates_in edge_histories.new.items
@@ -236,11 +242,11 @@ pub fn file_edge<L: Ledger>(
 {
     let _few = layers.len();
     if let Some(number) = number_of_edge(nodes, layers, links, &edge) {
-        return file_update(edge_histories, number, update, steps);
+        file_update(edge_histories, number, update, steps)?;
+        return Ok(number);
     }
     reserve_edge(nodes, layers, links, node_histories, edge_histories)?;
     begin_history(alloc, edge_histories, update, steps)?;
     let parts = number_parts(alloc, nodes, layers, links, node_histories, edge);
-    let _ = links.add(parts);
-    Ok(())
+    Ok(links.add(parts))
 }

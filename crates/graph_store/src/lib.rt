@@ -24,4 +24,5 @@ mod walks;
 
 pub use judging::{Count, StoreRefusal};
 pub use store::Store;
+pub use taking::Filed;
 pub use walks::{EdgeId, EdgeWalk, NodeId, PairId, PairWalk};

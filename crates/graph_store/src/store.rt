@@ -1,5 +1,5 @@
 //! The store.
-ghost use Rattle.std.specs.Prelude.{◌≡◌, ◌||◌, ℕ, ◌<◌, ◌≤◌, [], ◌∷◌, ◌++◌, None, MatchOption, IfSome, IsOk, OnOk, OnErr, ◌+◌, length, map, slice_get, Some, is_some, option_map, position, true, false, IsTrue, IfErr, IfNone, ◌≢◌};
+ghost use Rattle.std.specs.Prelude.{◌≡◌, ◌||◌, ℕ, ◌<◌, ◌≤◌, [], ◌∷◌, ◌++◌, None, MatchOption, IfSome, IsOk, IfOk, OnOk, OnErr, ◌+◌, length, map, slice_get, Some, is_some, option_map, position, true, false, IsTrue, IfErr, IfNone, ◌≢◌};
 ghost use Rattle.std.specs.List.{list_any, find};
 ghost use Rattle.graph_model.specs.Names.{same_name};
 
@@ -12,7 +12,7 @@ use crate::judging::{
 use crate::keys::KeyTable;
 use crate::naming::{number_name, number_node, number_of_edge};
 use crate::pairs::Ends;
-use crate::taking::{Arrival, take_edge, take_node};
+use crate::taking::{Arrival, Filed, take_edge, take_node};
 use crate::types::TypeTable;
 use crate::walks::{EdgeId, EdgeWalk, NodeId, PairId, PairWalk};
 use graph_model::{
@@ -72,6 +72,7 @@ impl Store {
     ghost use Rattle.graph_store.specs.EdgeParts.{ends_of, parts_at};
     ghost use Rattle.indexmap.specs.IndexSet.{insert_key};
     ghost use Rattle.graph_model.specs.Searches.{digits};
+    ghost use Rattle.graph_store.specs.FiledAs.{IsFiledAs};
     ghost use Rattle.graph_store.specs.WithEvent.{node_event, with_node_event, edge_event, with_edge_event, with_event, HasRoom};
     ghost use Rattle.graph_store.specs.WithType.{with_type};
     ghost use Rattle.graph_store.specs.WithUpdate.{with_ends};
@@ -532,13 +533,14 @@ impl Store {
         self.refusal_of(event)
     }
 
-    /// Takes an event that is not refused.
-    fn take<L: Ledger>(&mut self, event: Event, steps: &mut Steps<L>) -> Result<(), Memory>
+    /// Takes an event that is not refused. It answers the number of the event's entity.
+    fn take<L: Ledger>(&mut self, event: Event, steps: &mut Steps<L>) -> Result<Filed, Memory>
         requires room { HasRoom self.old (with_event self.old event) }
         requires inside { IsTrue (is_inside self.old.bounds event.time) }
         requires allowed { IsTrue (allows self.old.model event) }
         requires typed { mistyped self.old.accepted event ≡ None }
         ensures ok { OnOk result (self.new ≡ with_event self.old event) }
+        ensures filed { IfOk result (IsFiledAs self.new event) }
         ensures err { OnErr result (self.new ≡ self.old) }
         ensures cost { steps.new ≤ steps.old + (digits (length self.old.accepted) + 1) }
     {
@@ -557,15 +559,17 @@ impl Store {
     }
 
     /// Accepts an event whose time is inside the bounds, or refuses it for the first cause. Where it
-    /// is refused, or memory is wanting, the store stays as it is.
+    /// is accepted, the answer is the number of its node or edge. Where it is refused, or memory is
+    /// wanting, the store stays as it is.
     pub fn apply<L: Ledger>(
         &mut self,
         event: Event,
         steps: &mut Steps<L>,
-    ) -> Result<(), StoreRefusal>
+    ) -> Result<Filed, StoreRefusal>
         requires inside { IsTrue (is_inside self.old.bounds event.time) }
 
         ensures ok { OnOk result (self.new ≡ with_event self.old event) }
+        ensures filed { IfOk result (IsFiledAs self.new event) }
         ensures accepted { OnOk result
             (event_refusal self.old.model self.old.accepted self.old.types event ≡ None) }
         ensures events { OnOk result (self.new.accepted ≡ self.old.accepted ++ event ∷ []) }
@@ -585,7 +589,7 @@ impl Store {
             return Err(refusal);
         }
         match self.take(event, steps) {
-            Ok(()) => Ok(()),
+            Ok(filed) => Ok(filed),
             Err(_) => Err(StoreRefusal::Memory),
         }
     }
@@ -598,13 +602,15 @@ impl Store {
         name: Name,
         props: &Props,
         steps: &mut Steps<L>,
-    ) -> Result<(), Memory>
+    ) -> Result<Filed, Memory>
         requires few_events { length self.old.accepted < most_events }
         requires few_nodes { length (insert_key same_name self.old.nodes name) ≤ most_nodes }
         requires few_keys { length (with_keys self.old.node_keys props.now) ≤ most_keys }
         requires inside { IsTrue (is_inside self.old.bounds time) }
         requires typed { mistyped self.old.accepted (node_event time order name props.now) ≡ None }
         ensures ok { OnOk result (self.new ≡ with_node_event self.old time order name props.now) }
+        ensures filed { IfOk result
+            (IsFiledAs self.new (node_event time order name props.now)) }
         ensures err { OnErr result (self.new ≡ self.old) }
         ensures cost { steps.new ≤ steps.old + (digits (length self.old.accepted) + 1) }
     {
@@ -615,7 +621,7 @@ impl Store {
             number: self.events,
             kind: Kind::Node,
         };
-        take_node(
+        let number = take_node(
             self.alloc,
             &mut self.node_keys,
             &mut self.nodes,
@@ -627,7 +633,7 @@ impl Store {
             steps,
         )?;
         self.events += 1;
-        Ok(())
+        Ok(Filed::Node(NodeId(number)))
     }
 
     /// Takes an addition or a deletion of an edge, for which there is room within the limits.
@@ -639,7 +645,7 @@ impl Store {
         edge: EdgeName,
         props: &Props,
         steps: &mut Steps<L>,
-    ) -> Result<(), Memory>
+    ) -> Result<Filed, Memory>
         requires few_events { length self.old.accepted < most_events }
         requires few_nodes { length (with_ends self.old.nodes edge) ≤ most_nodes }
         requires few_layers { length (insert_key same_name self.old.layers edge.layer)
@@ -654,6 +660,8 @@ impl Store {
         requires deletion { is_delete kind ≡ true → props.now ≡ [] }
         ensures ok { OnOk result (self.new
             ≡ with_edge_event self.old (edge_event time order kind edge props.now) edge props.now) }
+        ensures filed { IfOk result
+            (IsFiledAs self.new (edge_event time order kind edge props.now)) }
         ensures err { OnErr result (self.new ≡ self.old) }
         ensures cost { steps.new ≤ steps.old + (digits (length self.old.accepted) + 1) }
     {
@@ -665,7 +673,7 @@ impl Store {
             number: self.events,
             kind,
         };
-        take_edge(
+        let number = take_edge(
             self.alloc,
             &mut self.edge_keys,
             &mut self.nodes,
@@ -679,7 +687,7 @@ impl Store {
             steps,
         )?;
         self.events += 1;
-        Ok(())
+        Ok(Filed::Edge(EdgeId(number)))
     }
 
     /// The number of the type of a node, by the node's name.

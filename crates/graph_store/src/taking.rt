@@ -1,5 +1,5 @@
 //! Events of nodes and edges, taken with the keys of their properties.
-ghost use Rattle.std.specs.Prelude.{◌≡◌, ℕ, List, ◌+◌, ◌-◌, ◌^◌, ◌<◌, ◌≤◌, true, is_some, position, length, vec_len, OnOk, OnErr};
+ghost use Rattle.std.specs.Prelude.{◌≡◌, ℕ, List, ◌+◌, ◌-◌, ◌^◌, ◌<◌, ◌≤◌, true, is_some, position, length, vec_len, IfOk, OnOk, OnErr};
 ghost use Rattle.indexmap.specs.IndexSet.{insert_key};
 ghost use Rattle.graph_model.specs.declared.properties.Value.{Value as GraphValue};
 ghost use Rattle.graph_model.specs.Limits.{most_layers};
@@ -12,11 +12,13 @@ ghost use Rattle.graph_model.specs.Entity.{same_entity};
 ghost use Rattle.graph_model.specs.declared.events.Entity.TheVariants.{Edge as EdgeNamed};
 ghost use Rattle.graph_store.specs.EdgeParts.{parts_at};
 ghost use Rattle.graph_store.specs.Contents.{edge_entities};
+ghost use Rattle.graph_store.specs.FiledAs.{IsNumberOf, IsEdgeNumber};
 ghost use Rattle.graph_store.specs.WithUpdate.{update_of, with_ends, with_end_histories, HasEdge, ArrivesNext, TakeUpdate};
 
 use crate::edges::EdgeTable;
 use crate::filing::{file_edge, file_node};
 use crate::keys::KeyTable;
+use crate::walks::{EdgeId, NodeId};
 use graph_model::{EdgeName, Memory, Name, Props};
 use name_intern::NameTable;
 use std::alloc::Global;
@@ -31,6 +33,13 @@ pub struct Arrival {
     pub order: u32,
     pub number: u32,
     pub kind: Kind,
+}
+
+/// The number of the entity of an event that was accepted.
+#[derive(Clone, Copy, Debug, PartialEq, Eq)]
+pub enum Filed {
+    Node(NodeId),
+    Edge(EdgeId),
 }
 
 impl Arrival {
@@ -59,7 +68,7 @@ fn file_numbered<L: Ledger>(
     props: &Props,
     arrival: Arrival,
     steps: &mut Steps<L>,
-) -> Result<(), Memory>
+) -> Result<u32, Memory>
     requires keys { length keys.now < 2 ^ 32 }
     requires known { (i : ℕ) → i < length props.now
         → is_some (type_in keys.now (prop_at props.now i).0) ≡ true }
@@ -76,6 +85,7 @@ fn file_numbered<L: Ledger>(
     ensures pairs { links.new.pairs ≡ links.old.pairs }
     ensures linked { links.new.nodes ≡ length nodes.new.names }
     ensures names { OnOk result (nodes.new.names ≡ insert_key same_name nodes.old.names name) }
+    ensures number { IfOk result (IsNumberOf nodes.new.names name) }
     ensures taken { let found = position (same_name name) nodes.old.names in
         OnOk result (TakeUpdate keys.now props.now arrival found
         (updates_in histories.old.items) (updates_in histories.new.items)) }
@@ -97,6 +107,7 @@ fn file_numbered<L: Ledger>(
 }
 
 /// Takes an update of a node, which is new or known. Its keys, which are new or known, get numbers.
+/// It answers the node's number.
 pub fn take_node<L: Ledger>(
     alloc: Global,
     keys: &mut KeyTable,
@@ -107,7 +118,7 @@ pub fn take_node<L: Ledger>(
     props: &Props,
     arrival: Arrival,
     steps: &mut Steps<L>,
-) -> Result<(), Memory>
+) -> Result<u32, Memory>
     requires keys { length (with_keys keys.old props.now) < 2 ^ 32 }
     requires linked { links.old.nodes ≡ length nodes.old.names }
     requires lengths { vec_len histories.old ≡ length nodes.old.names }
@@ -123,6 +134,7 @@ pub fn take_node<L: Ledger>(
     ensures linked { links.new.nodes ≡ length nodes.new.names }
     ensures keys { OnOk result (keys.new ≡ with_keys keys.old props.now) }
     ensures names { OnOk result (nodes.new.names ≡ insert_key same_name nodes.old.names name) }
+    ensures number { IfOk result (IsNumberOf nodes.new.names name) }
     ensures taken { let found = position (same_name name) nodes.old.names in
         OnOk result (TakeUpdate (with_keys keys.old props.now) props.now arrival found
         (updates_in histories.old.items) (updates_in histories.new.items)) }
@@ -134,13 +146,15 @@ pub fn take_node<L: Ledger>(
 {
     let known = keys.count();
     keys.add(props)?;
-    if let Err(memory) = file_numbered(
+    match file_numbered(
         alloc, keys, nodes, links, histories, name, props, arrival, steps,
     ) {
-        keys.cut(known);
-        return Err(memory);
+        Ok(node) => Ok(node),
+        Err(memory) => {
+            keys.cut(known);
+            Err(memory)
+        }
     }
-    Ok(())
 }
 
 /// Files an event of an edge, whose keys all have numbers.
@@ -156,7 +170,7 @@ fn file_numbered_edge<L: Ledger>(
     props: &Props,
     arrival: Arrival,
     steps: &mut Steps<L>,
-) -> Result<(), Memory>
+) -> Result<u32, Memory>
     requires keys { length keys.now < 2 ^ 32 }
     requires known { (i : ℕ) → i < length props.now
         → is_some (type_in keys.now (prop_at props.now i).0) ≡ true }
@@ -187,6 +201,8 @@ fn file_numbered_edge<L: Ledger>(
     ensures edges { let found = position (same_entity (EdgeNamed edge))
         (edge_entities nodes.old.names layers.old.names links.old.edges) in
         OnOk result (HasEdge found nodes.new.names layers.new.names edge links.old links.new) }
+    ensures number { IfOk result
+        (IsEdgeNumber nodes.new.names layers.new.names links.new.edges edge) }
     ensures taken { let found = position (same_entity (EdgeNamed edge))
         (edge_entities nodes.old.names layers.old.names links.old.edges) in
         OnOk result (TakeUpdate keys.now props.now arrival found
@@ -217,6 +233,7 @@ fn file_numbered_edge<L: Ledger>(
 }
 
 /// Takes an event of an edge, which is new or known. Its keys, which are new or known, get numbers.
+/// It answers the edge's number.
 pub fn take_edge<L: Ledger>(
     alloc: Global,
     keys: &mut KeyTable,
@@ -229,7 +246,7 @@ pub fn take_edge<L: Ledger>(
     props: &Props,
     arrival: Arrival,
     steps: &mut Steps<L>,
-) -> Result<(), Memory>
+) -> Result<u32, Memory>
     requires keys { length (with_keys keys.old props.now) < 2 ^ 32 }
     requires linked { links.old.nodes ≡ length nodes.old.names }
     requires few { length (with_ends nodes.old.names edge) ≤ nodes.old.limit }
@@ -258,6 +275,8 @@ pub fn take_edge<L: Ledger>(
     ensures edges { let found = position (same_entity (EdgeNamed edge))
         (edge_entities nodes.old.names layers.old.names links.old.edges) in
         OnOk result (HasEdge found nodes.new.names layers.new.names edge links.old links.new) }
+    ensures number { IfOk result
+        (IsEdgeNumber nodes.new.names layers.new.names links.new.edges edge) }
     ensures taken { let found = position (same_entity (EdgeNamed edge))
         (edge_entities nodes.old.names layers.old.names links.old.edges) in
         OnOk result (TakeUpdate (with_keys keys.old props.now) props.now arrival found
@@ -276,7 +295,7 @@ pub fn take_edge<L: Ledger>(
 {
     let known = keys.count();
     keys.add(props)?;
-    if let Err(memory) = file_numbered_edge(
+    match file_numbered_edge(
         alloc,
         keys,
         nodes,
@@ -289,8 +308,10 @@ pub fn take_edge<L: Ledger>(
         arrival,
         steps,
     ) {
-        keys.cut(known);
-        return Err(memory);
+        Ok(edge) => Ok(edge),
+        Err(memory) => {
+            keys.cut(known);
+            Err(memory)
+        }
     }
-    Ok(())
 }

@@ -39,7 +39,7 @@ fn put_event<L: Ledger>(
 {
     let event = event.copy()?;
     match store.apply(event, steps) {
-        Ok(()) => Ok(()),
+        Ok(_) => Ok(()),
         Err(refusal) => Err(only_memory(refusal)),
     }
 }

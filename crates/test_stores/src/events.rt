@@ -86,7 +86,7 @@ fn outcome<L: Ledger>(
         what,
     };
     match store.apply(event, steps) {
-        Ok(()) => "accepted",
+        Ok(_) => "accepted",
         Err(refusal) => cause(refusal),
     }
 }

@@ -3,6 +3,7 @@ use Rattle.std.proofs.lemmas.Int.{to_z-of_z}
 use Rattle.std.proofs.lemmas.List.{length-map}
 use Rattle.indexmap.specs.IndexSet.{insert_key}
 use Rattle.graph_model.specs.Limits.{most_events, most_layers, most_keys}
+use Rattle.graph_model.specs.declared.events.Entity.TheVariants.{Edge}
 use Rattle.graph_model.specs.Names.{same_name}
 use Rattle.graph_model.specs.Interval.{is_inside}
 use Rattle.graph_model.specs.World.{allows}
@@ -14,7 +15,7 @@ use Rattle.graph_store.specs.Contents.{Contents}
 use Rattle.graph_store.specs.Indexed.{IsIndexed}
 use Rattle.graph_store.specs.StoreInvariant.{contents}
 use Rattle.graph_store.specs.WithEvent.{edge_event, with_edge_event}
-use Rattle.graph_store.proofs.TakeEdge.{edge_arrival, contents-edge_taken, IsStored-edge_taken, next_of_edge}
+use Rattle.graph_store.proofs.TakeEdge.{entity_of-edge_event, edge_arrival, contents-edge_taken, IsStored-edge_taken, next_of_edge}
 use Rattle.graph_store.proofs.store.Store.update_edge.Goals as goal
 
 pub take_edge-requires-clause-next : goal.take_edge-requires-clause-next
@@ -26,7 +27,7 @@ take_edge-requires-clause-next g c = λ values i lt.
 
 pub invariant_of-self-2 : goal.invariant_of-self-2
 invariant_of-self-2 g c =
-    let e = c.in_ok-take_edge.ensures in
+    let e = c.in_ok-number.ensures in
     let few_events : length (contents c.self.inside).accepted < most_events = subst (λ (v : Contents). length v.accepted < most_events) (sym c.self.view_is) c.requires.few_events in
     let events = c.self.invariant.events in
     let time = to_z-of_z w64 c.args.time c.ranges.time in
@@ -42,9 +43,14 @@ invariant_of-self-2 g c =
 
 pub returns-clause-ok : goal.returns-clause-ok
 returns-clause-ok g c =
-    let e = c.in_ok-take_edge.ensures in
+    let e = c.in_ok-number.ensures in
     contents-edge_taken c.self.inside c.self.invariant (subst IsIndexed (sym c.self.view_is) c.nodes-indexed.ensures.indexed) (to_z w64 (of_z w64 c.args.time)) c.args.order c.args.kind c.args.edge c.args.props.now
     c.take_edge.new.nodes c.take_edge.new.layers c.take_edge.new.keys c.take_edge.new.links c.take_edge.new.node_histories c.take_edge.new.edge_histories
     e.names e.limit e.layers e.layer_limit e.keys e.linked e.nodes_filed e.edges e.taken c.requires.kind c.requires.deletion
     ∙ (ap (λ t. with_edge_event (contents c.self.inside) (edge_event t c.args.order c.args.kind c.args.edge c.args.props.now) c.args.edge c.args.props.now) (to_z-of_z w64 c.args.time c.ranges.time)
     ∙ ap (λ (v : Contents). with_edge_event v (edge_event c.args.time c.args.order c.args.kind c.args.edge c.args.props.now) c.args.edge c.args.props.now) c.self.view_is)
+
+pub returns-clause-filed : goal.returns-clause-filed
+returns-clause-filed g c =
+    let number = c.in_ok-number.ensures.number in
+    (number.0, ap Edge number.1 ∙ sym (entity_of-edge_event c.args.time c.args.order c.args.kind c.args.edge c.args.props.now))

@@ -22,7 +22,7 @@ take_node-requires-clause-next g c = λ values i lt.
 
 pub invariant_of-self-2 : goal.invariant_of-self-2
 invariant_of-self-2 g c =
-    let e = c.in_ok-take_node.ensures in
+    let e = c.in_ok-number.ensures in
     let few_events : length (contents c.self.inside).accepted < most_events = subst (λ (v : Contents). length v.accepted < most_events) (sym c.self.view_is) c.requires.few_events in
     let events = c.self.invariant.events in
     let time = to_z-of_z w64 c.args.time c.ranges.time in
@@ -35,7 +35,7 @@ invariant_of-self-2 g c =
 
 pub returns-clause-ok : goal.returns-clause-ok
 returns-clause-ok g c =
-    let e = c.in_ok-take_node.ensures in
+    let e = c.in_ok-number.ensures in
     contents-taken c.self.inside c.self.invariant (to_z w64 (of_z w64 c.args.time)) c.args.order c.args.name c.args.props.now c.take_node.new.nodes c.take_node.new.keys c.take_node.new.links c.take_node.new.histories
     e.names e.limit e.keys e.linked e.edges e.pairs e.taken
     ∙ (ap (λ t. with_node_event (contents c.self.inside) t c.args.order c.args.name c.args.props.now) (to_z-of_z w64 c.args.time c.ranges.time)
