@@ -32,12 +32,24 @@ StepsWithin-times before after a b s among l h =
     let e : (b - a) + a ≡ b = omega arith in
     subst (λ n. StepsWithin before after n among) (more_times (b - a) a s ∙ ap (λ n. n * s) e) (StepsWithin-fewer before after (a * s) ((b - a) * s) among h)
 
+-- some of them, and then others
+pub StepsWithin-both : (before between after a b s among : ℕ) → StepsWithin before between (a * s) among → StepsWithin between after (b * s) among → StepsWithin before after ((a + b) * s) among
+StepsWithin-both before between after a b s among h k =
+    let e : b + a ≡ a + b = omega arith in
+    subst (λ n. StepsWithin before after n among) (more_times b a s ∙ ap (λ n. n * s) e) (StepsWithin-then before between after (a * s) (b * s) among h k)
+
+-- a part of them, of which there were some left
+pub StepsWithin-part : (before between after all left rest part s among : ℕ) → left ≡ part + rest → left ≤ all → StepsWithin before between ((all - left) * s) among → StepsWithin between after (part * s) among → StepsWithin before after ((all - rest) * s) among
+StepsWithin-part before between after all left rest part s among e l h k =
+    let more : (all - left) + part ≡ all - rest = omega (arith, e, l) in
+    subst (λ n. StepsWithin before after n among) (ap (λ n. n * s) more) (StepsWithin-both before between after (all - left) part s among h k)
+
 -- one more of them, of which there were some left
 pub StepsWithin-each : (before between after all left rest s among : ℕ) → left ≡ rest + 1 → left ≤ all → StepsWithin before between ((all - left) * s) among → StepsWithin between after s among → StepsWithin before after ((all - rest) * s) among
 StepsWithin-each before between after all left rest s among e l h k =
     let one : 1 * s ≡ s = omega arith in
-    let more : 1 + (all - left) ≡ all - rest = omega (arith, e) in
-    subst (λ n. StepsWithin before after n among) (ap (λ n. n + (all - left) * s) (sym one) ∙ (more_times 1 (all - left) s ∙ ap (λ n. n * s) more)) (StepsWithin-then before between after ((all - left) * s) s among h k)
+    let next : left ≡ 1 + rest = omega (arith, e) in
+    StepsWithin-part before between after all left rest 1 s among next l h (subst (λ n. StepsWithin between after n among) (sym one) k)
 
 -- one more span, of which two times are read
 pub spans_more : (before between after n s d : ℕ) → between ≤ before + (n * s) * d + 2 * n → after ≤ between + s * d + 2 → after ≤ before + ((n + 1) * s) * d + 2 * (n + 1)

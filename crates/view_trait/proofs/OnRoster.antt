@@ -120,13 +120,14 @@ abbrev named_edge : EdgeName → Entity → EdgeName
 named_edge other (Node name) = other
 named_edge other (Edge edge) = edge
 
-nodes_apart : (c : Contents) → IsIndexed c → (i j : ℕ) → i < length c.nodes → j < length c.nodes → node_at c i ≡ node_at c j → i ≡ j
+-- each number names one node, and one edge
+pub nodes_apart : (c : Contents) → IsIndexed c → (i j : ℕ) → i < length c.nodes → j < length c.nodes → node_at c i ≡ node_at c j → i ≡ j
 nodes_apart c h i j a b e = same_number c i j h a b (ap named_node e)
 
 own_parts : (p : EdgeParts) → same_parts p p ≡ true
 own_parts p = grind (arith, nat_tests)
 
-edges_apart : (c : Contents) → IsIndexed c → (i j : ℕ) → i < length c.edges → j < length c.edges → edge_at c i ≡ edge_at c j → i ≡ j
+pub edges_apart : (c : Contents) → IsIndexed c → (i j : ℕ) → i < length c.edges → j < length c.edges → edge_at c i ≡ edge_at c j → i ≡ j
 edges_apart c h i j a b same =
     let p = h.within i a in
     let q = h.within j b in

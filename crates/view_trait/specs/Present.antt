@@ -1,8 +1,8 @@
 -- Pairs and neighbours, by their numbers.
-use Rattle.std.specs.Prelude.{ℕ, List, [], ◌∷◌, ◌++◌, Bool, not, ◌&&◌, ◌≡◌, ◌<◌, ◌==◌, length, map}
-use Rattle.std.specs.Prelude.{Option, MatchOption}
+use Rattle.std.specs.Prelude.{ℕ, List, [], ◌∷◌, ◌++◌, Bool, not, ◌&&◌, ◌≡◌, ◌<◌, ◌==◌, ◌+◌}
+use Rattle.std.specs.Prelude.{length, map, Option, MatchOption}
 use Rattle.std.specs.Option.{option_map_or, ForSome}
-use Rattle.std.specs.List.{list_any, filter, IsDistinct, AllByRecursion}
+use Rattle.std.specs.List.{list_any, filter, sum_by, IsDistinct, AllByRecursion}
 use Rattle.graph_model.specs.declared.queries.Direction.{Direction}
 use Rattle.graph_model.specs.declared.queries.Direction.TheVariants.{Outward}
 use Rattle.graph_model.specs.Names.{same_name}
@@ -11,6 +11,7 @@ use Rattle.graph_model.specs.Neighbours.{leads}
 use Rattle.graph_store.specs.declared.walks.NodeId.{NodeId}
 use Rattle.graph_store.specs.Ends.{ends_at}
 use Rattle.graph_store.specs.EdgeIndex.{edges_between}
+use Rattle.graph_store.specs.PairIndex.{pairs_from, pairs_to}
 use Rattle.graph_store.specs.Contents.{Contents, name_at}
 
 -- whether a present edge leads from the source of a pair to its destination
@@ -59,9 +60,16 @@ into_left c w n both into = option_map_or (starts_left c w n both) into []
 abbrev pub numbers_left : Contents → World → ℕ → Bool → Option (List ℕ) → Option (List ℕ) → List ℕ
 numbers_left c w n both out into = out_left c w out ++ into_left c w n both into
 
--- how many edges a pair has
+-- how many edges a pair has, and how many some pairs have together
 abbrev pub edge_count : Contents → ℕ → ℕ
 edge_count c p = length (edges_between c.edges (ends_at c.pairs p))
+
+abbrev pub edge_count_of : Contents → List ℕ → ℕ
+edge_count_of c pairs = sum_by (edge_count c) pairs
+
+-- how many edges begin or end at a node, where a loop does both
+abbrev pub edge_count_at : Contents → ℕ → ℕ
+edge_count_at c n = edge_count_of c (pairs_from c.pairs n) + edge_count_of c (pairs_to c.pairs n)
 
 -- numbers of pairs of a store
 abbrev pub ArePairs : Contents → Option (List ℕ) → Type 0

@@ -9,7 +9,8 @@ use std::sync::ledger::Ledger;
 use time_column::Steps;
 
 /// The least contact of an edge in the view's world that is later than a moment, or `None` exactly
-/// where there is none. A contact is a moment at which the edge is alive. It takes no memory.
+/// where there is none. A contact is a moment at which the edge is alive. It takes no memory. No
+/// clause bounds its steps: where edges last, it reads on until an addition outlasts its moment.
 pub fn next_contact<V: View, L: Ledger>(
     view: &V,
     e: EdgeId,

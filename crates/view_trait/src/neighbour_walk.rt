@@ -70,8 +70,9 @@ pub fn neighbours<V: View>(view: &V, n: NodeId, direction: Direction) -> Neighbo
 }
 
 impl<V: View> NeighbourWalk<'_, V> {
-    /// The next neighbour, or nothing once all were given. No clause bounds its steps: it asks the
-    /// pairs that are left until one is present.
+    /// The next neighbour, or nothing once all were given. It asks the pairs that are left until
+    /// one is present. No clause bounds its steps, since a contract sees the neighbours that are
+    /// yet to come and not the pairs without a present edge between them.
     pub fn next<L: Ledger>(&mut self, steps: &mut Steps<L>) -> Option<NodeId>
         ensures { IsNextNeighbour self.old self.new result }
     {
