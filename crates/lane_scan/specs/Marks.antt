@@ -2,11 +2,21 @@
 use Rattle.std.specs.Prelude.{ℕ, ℤ, List, [], ◌∷◌, ◌==◌, ◌≡◌, ◌≤◌, length, if◌then◌else◌}
 use Rattle.std.specs.List.{All}
 use Rattle.lane_scan.specs.declared.hits.Hit.{Hit}
+use Rattle.graph_model.specs.Interval.{is_inside}
+use Rattle.view_trait.specs.Numbered.{has_bit}
 use Rattle.lane_scan.specs.Rows.{passes}
 
 -- 1 for a row that is selected, and 0 for another
 abbrev pub mark : ℤ → ℤ → ℕ → ℤ → ℕ → ℕ
 mark lo hi mask time code = if passes lo hi mask time code then 1 else 0
+
+-- 1 for a time from lo up to hi, and 0 for another
+abbrev pub time_mark : ℤ → ℤ → ℤ → ℕ
+time_mark lo hi time = if is_inside (record { lo = lo; hi = hi }) time then 1 else 0
+
+-- 1 for a code whose bit is in a mask, and 0 for another
+abbrev pub code_mark : ℕ → ℕ → ℕ
+code_mark mask code = if has_bit mask code then 1 else 0
 
 -- the marks of the rows with these times and codes
 abbrev pub marks : ℤ → ℤ → ℕ → List ℤ → List ℕ → List ℕ
