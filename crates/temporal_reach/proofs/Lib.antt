@@ -10,3 +10,8 @@ pub mod Closed
 pub mod Arriving
 pub mod ArrivalRows
 pub mod Numbering
+pub mod Mirrored
+pub mod LaneTimes
+pub mod LaneRoster
+pub mod LaneExtent
+pub mod LaneContacts
