@@ -1,2 +1,4 @@
 pub mod Costs
 pub mod Records
+mod Timelines
+mod Mirroring

@@ -1,3 +1,4 @@
 pub mod Causes
 pub mod Costs
 pub mod StoreReading
+pub mod Rows
