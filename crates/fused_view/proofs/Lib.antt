@@ -1,2 +1,4 @@
 pub mod Merged
 pub mod Joining
+pub mod LaneWorlds
+pub mod Counting

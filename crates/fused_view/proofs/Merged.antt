@@ -40,7 +40,7 @@ known_each c p q nodes edges (Edge edge) k =
     let r = edge_number c edge k in
     subst (λ (e : EdgeName). p (Edge e) ≡ q (Edge e)) r.2 (edges r.0 r.1)
 
-keep_numbered : (c : Contents) (w : World) (p q : Entity → Bool) → IsShown c w → ((n : ℕ) → n < length c.nodes → p (node_at c n) ≡ q (node_at c n)) → ((e : ℕ) → e < length c.edges → p (edge_at c e) ≡ q (edge_at c e)) → keep p w ≡ keep q w
+pub keep_numbered : (c : Contents) (w : World) (p q : Entity → Bool) → IsShown c w → ((n : ℕ) → n < length c.nodes → p (node_at c n) ≡ q (node_at c n)) → ((e : ℕ) → e < length c.edges → p (edge_at c e) ≡ q (edge_at c e)) → keep p w ≡ keep q w
 keep_numbered c w p q h nodes edges = keep_known p q c w h (known_each c p q nodes edges)
 
 -- ---- what each merged view shows
@@ -149,7 +149,7 @@ least_one x y h k = elim (cases_Bool (eqb x 1)) [
 both_bits : (a b l : ℕ) → (has_bit a l && has_bit b l) ≡ has_bit (bit_and a b) l
 both_bits a b l = sym (ap (λ n. eqb n 1) (bit_at_and a b l) ∙ least_one (bit_at a l) (bit_at b l) (bit_at-lt a l) (bit_at-lt b l))
 
-mask_piece : (c : Contents) (o : Option ℕ) (bits : ℕ) (w : World) → IsShown c w → layer_world c bits (layer_piece c o w) ≡ layer_world c (masked o bits) w
+pub mask_piece : (c : Contents) (o : Option ℕ) (bits : ℕ) (w : World) → IsShown c w → layer_world c bits (layer_piece c o w) ≡ layer_world c (masked o bits) w
 mask_piece c None bits w h = refl
 mask_piece c (Some layers) bits w h =
     let p = in_layers (layers_numbered c layers) in

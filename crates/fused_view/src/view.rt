@@ -1,11 +1,19 @@
 //! The view of a list of views that is rewritten.
-ghost use Rattle.std.specs.Prelude.{◌≡◌};
+ghost use Rattle.std.specs.Prelude.{◌≡◌, is_some, map};
+ghost use Rattle.std.specs.List.{list_all};
+ghost use Rattle.std.specs.Option.{ForSome};
+ghost use Rattle.graph_model.specs.Searches.{fused_searches};
 ghost use Rattle.graph_store.specs.Contents.{base_of};
 ghost use Rattle.view_trait.specs.Meaning.{IsShown};
+ghost use Rattle.view_trait.specs.Ready.{ready_apply, ready_kind};
 ghost use Rattle.view_trait.proofs.OneProof.{IsShown-prop};
+ghost use Rattle.fused_view.specs.Counts.{counted};
 ghost use Rattle.fused_view.specs.Fused.{IsFused};
+ghost use Rattle.fused_view.specs.Lanes.{is_lane, lane_world};
 
+use crate::counts::SearchCounts;
 use crate::fused_ops::FusedOps;
+use crate::lanes::Lanes;
 use graph_model::Bounds;
 use graph_store::{EdgeId, NodeId, Store};
 use stack_view::StackView;
@@ -34,6 +42,35 @@ impl<'g> FusedView<'g> {
         FusedView { store, ops }
     }
 
+    /// The moments and the layers that the views come to, where each of them is a window or a view of
+    /// layers. It takes no memory and reads no stored time.
+    pub fn lanes(&self) -> Option<Lanes>
+        ensures some { is_some result ≡ list_all is_lane self.now.ops.now.given }
+        ensures world { let c = self.now.store.now in
+            ForSome result (λ lanes.
+            ready_apply c self.now.ops.now.given (base_of c) ≡ lane_world c lanes (base_of c)) }
+    {
+        let ops = self.ops.given();
+        let mut lanes = Lanes::whole(self.store);
+        for i in 0..ops.len() {
+            lanes = lanes.with(ops.item(i))?;
+        }
+        Some(lanes)
+    }
+
+    /// How many searches the view of a node costs, and of an edge. It takes no memory and reads no
+    /// stored time.
+    pub fn searches(&self) -> SearchCounts
+        ensures { result ≡ counted (fused_searches (map ready_kind self.now.ops.now.given)) }
+    {
+        let ops = self.ops.merged();
+        let mut all = SearchCounts { nodes: 0, edges: 0 };
+        for i in 0..ops.len() {
+            all = all.with(ops.item(i));
+        }
+        all
+    }
+
     // The view of the merged list.
     fn merged(&self) -> StackView<'g>
         ensures store { result.store.now ≡ self.now.store.now }
@@ -45,9 +82,6 @@ impl<'g> FusedView<'g> {
 }
 
 impl View for FusedView<'_> {
-    ghost use Rattle.std.specs.Prelude.{map};
-    ghost use Rattle.graph_model.specs.Searches.{fused_searches};
-    ghost use Rattle.view_trait.specs.Ready.{ready_apply, ready_kind};
     ghost use Rattle.stack_view.specs.Shown.{IsShown-after};
 
     ghost contents = { λ view. view.store.now };
