@@ -1,4 +1,3 @@
-pub mod Filled
 pub mod Marked
 pub mod Places
 pub mod Told

@@ -1,5 +1,4 @@
-pub mod Deleting
-pub mod Ends
-pub mod Filled
+pub mod Gathered
+pub mod Holding
 pub mod Listing
 pub mod Shown
